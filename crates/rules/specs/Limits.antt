@@ -1,0 +1,25 @@
+-- The limits of the paper, "Sizes". Assumes nothing.
+use Prim.Native.Nat.{ℕ}
+use lib.IntN.{ℤ, pos, negsuc}
+
+-- nodes and arcs
+abbrev pub mostNodes : ℕ
+mostNodes = 512
+
+abbrev pub mostArcs : ℕ
+mostArcs = 2048
+
+-- tenths of a second
+abbrev pub mostWeight : ℕ
+mostWeight = 1_000_000
+
+-- millimetres, from -1,000,000 to 1,000,000
+abbrev pub leastCoordinate : ℤ
+leastCoordinate = negsuc 999_999
+
+abbrev pub mostCoordinate : ℤ
+mostCoordinate = pos 1_000_000
+
+-- bytes
+abbrev pub longestText : ℕ
+longestText = 65_536
