@@ -68,14 +68,14 @@ pub fn judge_boxes(m: usize, boxes: &[i32]) -> Judged
     requires { ⌜ (m ≤ 2048) × (4 * m ≤ length (now boxes)) ⌝ }
     ensures { λ r. ⌜ r ≡ each (goodBox (now (boxes .entry))) BadBox m ⌝ }
 {
-    let mut i = 0;
-    while i < m {
-        if !good_box(boxes, 4 * i) {
+    let mut e = 0;
+    while e < m {
+        if !good_box(boxes, 4 * e) {
             return Judged::Refused(Refusal::BadBox {
-                arc: (i + 1) as u32,
+                arc: (e + 1) as u32,
             });
         }
-        i += 1;
+        e += 1;
     }
     Judged::Fine
 }

@@ -1,4 +1,4 @@
--- `geometry::judge_boxes` meets its contract. The loop's invariant: the boxes of the arcs up to i are fine. Assumes nothing.
+-- `geometry::judge_boxes` meets its contract. The loop's invariant: the boxes of the arcs up to e are fine. Assumes nothing.
 use Prim.Native.Nat.{_-_, _≤_}
 use mathlib.Core.Path.{_≡_, sym, _∙_}
 use native.Mathlib.Omega.{arith}
@@ -12,10 +12,10 @@ use Rattle.geometry.proofs.judge_boxes.Statement.{statement}
 use Rattle.geometry.proofs.judge_boxes.Tie as tie
 
 abbrev Inv-loop : tie.InvT-loop
-Inv-loop m boxes i₀ i = (i ≤ m) × (each (goodBox boxes) BadBox i ≡ Fine)
+Inv-loop m boxes e₀ e = (e ≤ m) × (each (goodBox boxes) BadBox e ≡ Fine)
 
 abbrev μ-loop : tie.MeasureT-loop
-μ-loop m boxes i₀ i = m - i
+μ-loop m boxes e₀ e = m - e
 
 loop-holds : tie.Need-loop-holds Inv-loop μ-loop
 loop-holds c = (omega arith, each-none _ _)
@@ -36,11 +36,11 @@ returns : tie.Need-returns Inv-loop μ-loop
 returns c =
     let a = c .before .before .before .before .args in
     let l = c .before .before .before .loop in
-    let test = good-box-next (a .boxes .now) (l .i) (sym (c .before .good-box .ensures) ∙ not-true _ (c .if1 .taken)) in
-    sym (each-out _ _ (l .i) (a .m) (l .inv .1) test (omega arith))
+    let test = good-box-next (a .boxes .now) (l .e) (sym (c .before .good-box .ensures) ∙ not-true _ (c .if1 .taken)) in
+    sym (each-out _ _ (l .e) (a .m) (l .env .1) test (omega arith))
 
-add-i : tie.Need-add-i Inv-loop μ-loop
-add-i c = omega arith
+add-e : tie.Need-add-e Inv-loop μ-loop
+add-e c = omega arith
 
 loop-less : tie.Need-loop-less Inv-loop μ-loop
 loop-less c = omega arith
@@ -49,14 +49,14 @@ loop-again : tie.Need-loop-again Inv-loop μ-loop
 loop-again c =
     let a = c .before .before .before .before .args in
     let l = c .before .before .before .loop in
-    let test = good-box-next (a .boxes .now) (l .i) (sym (c .before .good-box .ensures) ∙ not-false _ (c .if1 .left)) in
-    (omega arith, each-on _ _ (l .i) (l .inv .1) test)
+    let test = good-box-next (a .boxes .now) (l .e) (sym (c .before .good-box .ensures) ∙ not-false _ (c .if1 .left)) in
+    (omega arith, each-on _ _ (l .e) (l .env .1) test)
 
 returns-2 : tie.Need-returns-2 Inv-loop μ-loop
 returns-2 c =
     let l = c .before .loop in
-    let last : l .i ≡ c .before .before .args .m = omega arith in
-    sym (rw last at (l .inv .1))
+    let last : l .e ≡ c .before .before .args .m = omega arith in
+    sym (rw last at (l .env .1))
 
 pub judge-boxes-spec : {M : Type 1} → statement M
 judge-boxes-spec =
@@ -70,7 +70,7 @@ judge-boxes-spec =
     add-t7
     cast-t8
     returns
-    add-i
+    add-e
     loop-less
     loop-again
     returns-2)
