@@ -37,7 +37,7 @@ returns c =
     let a = c .before .before .before .before .args in
     let l = c .before .before .before .loop in
     let test = good-box-next (a .boxes .now) (l .e) (sym (c .before .good-box .ensures) ∙ not-true _ (c .if1 .taken)) in
-    sym (each-out _ _ (l .e) (a .m) (l .env .1) test (omega arith))
+    sym (each-out _ _ (l .e) (a .m) (l .inv .1) test (omega arith))
 
 add-e : tie.Need-add-e Inv-loop μ-loop
 add-e c = omega arith
@@ -50,13 +50,13 @@ loop-again c =
     let a = c .before .before .before .before .args in
     let l = c .before .before .before .loop in
     let test = good-box-next (a .boxes .now) (l .e) (sym (c .before .good-box .ensures) ∙ not-false _ (c .if1 .left)) in
-    (omega arith, each-on _ _ (l .e) (l .env .1) test)
+    (omega arith, each-on _ _ (l .e) (l .inv .1) test)
 
 returns-2 : tie.Need-returns-2 Inv-loop μ-loop
 returns-2 c =
     let l = c .before .loop in
     let last : l .e ≡ c .before .before .args .m = omega arith in
-    sym (rw last at (l .env .1))
+    sym (rw last at (l .inv .1))
 
 pub judge-boxes-spec : {M : Type 1} → statement M
 judge-boxes-spec =
