@@ -3,15 +3,15 @@ ghost use mathlib.Core.Path.{_≡_};
 ghost use Prim.Native.Nat.{_+_, _-_, _*_, _≤_, min};
 ghost use lib.IntN.{pos, negℤ};
 ghost use Rattle.scan.specs.Numbers.{valueFrom, naturalOf, integerOf};
-ghost use Rattle.commands.specs.Numbers.{heldNumber, countOf, wholeOf};
+ghost use Rattle.commands.specs.Numbers.{heldNumber, countOf, signedOf};
 use crate::Fault;
 use scan::pieces::first_byte;
 use scan::pieces::rest;
 
 // What digits spell, held at 10,000,000,000: every number of 32 bits is below.
-enum Spelt {
-    Number(u64),
-    NoNumber,
+pub enum Spelt {
+    Held(u64),
+    Unspelt,
 }
 
 // A number of 32 bits without sign, or what is wrong with it.
@@ -21,7 +21,7 @@ pub enum Count {
 }
 
 // A number of 32 bits that may be negative, or what is wrong with it.
-pub enum Whole {
+pub enum Signed {
     Is(i32),
     Not(Fault),
 }
@@ -44,15 +44,15 @@ fn read_digits(s: &[u8]) -> Spelt
     while i < s.len() {
         let b = s[i];
         if b < 48 {
-            return Spelt::NoNumber;
+            return Spelt::Unspelt;
         }
         if 57 < b {
-            return Spelt::NoNumber;
+            return Spelt::Unspelt;
         }
         v = longer(v, b);
         i += 1;
     }
-    Spelt::Number(v)
+    Spelt::Held(v)
 }
 
 // A number without sign, and without leading zeros except `0` itself.
@@ -61,13 +61,13 @@ fn read_spelt(s: &[u8]) -> Spelt
 {
     let b = first_byte(s);
     if s.len() == 0 {
-        return Spelt::NoNumber;
+        return Spelt::Unspelt;
     }
     if s.len() == 1 {
         return read_digits(s);
     }
     if b == 48 {
-        return Spelt::NoNumber;
+        return Spelt::Unspelt;
     }
     read_digits(s)
 }
@@ -77,7 +77,7 @@ pub fn read_count(s: &[u8]) -> Count
     ensures { λ r. ⌜ r ≡ countOf (naturalOf (now (s .entry))) ⌝ }
 {
     let a = read_spelt(s);
-    let Spelt::Number(v) = a else {
+    let Spelt::Held(v) = a else {
         return Count::Not(Fault::Misspelt);
     };
     if 4294967295 < v {
@@ -101,28 +101,28 @@ fn minus(v: u64) -> i32
 }
 
 // A word as a number of -2147483648..2147483647; `-0` is misspelt.
-pub fn read_whole(s: &[u8]) -> Whole
-    ensures { λ r. ⌜ r ≡ wholeOf (integerOf (now (s .entry))) ⌝ }
+pub fn read_signed(s: &[u8]) -> Signed
+    ensures { λ r. ⌜ r ≡ signedOf (integerOf (now (s .entry))) ⌝ }
 {
     if first_byte(s) == 45 {
         let a = read_spelt(rest(s, 1));
-        let Spelt::Number(v) = a else {
-            return Whole::Not(Fault::Misspelt);
+        let Spelt::Held(v) = a else {
+            return Signed::Not(Fault::Misspelt);
         };
         if v == 0 {
-            return Whole::Not(Fault::Misspelt);
+            return Signed::Not(Fault::Misspelt);
         }
         if 2147483648 < v {
-            return Whole::Not(Fault::BeyondType);
+            return Signed::Not(Fault::BeyondType);
         }
-        return Whole::Is(minus(v));
+        return Signed::Is(minus(v));
     }
     let b = read_spelt(s);
-    let Spelt::Number(w) = b else {
-        return Whole::Not(Fault::Misspelt);
+    let Spelt::Held(w) = b else {
+        return Signed::Not(Fault::Misspelt);
     };
     if 2147483647 < w {
-        return Whole::Not(Fault::BeyondType);
+        return Signed::Not(Fault::BeyondType);
     }
-    Whole::Is(plus(w))
+    Signed::Is(plus(w))
 }

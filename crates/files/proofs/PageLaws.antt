@@ -1,6 +1,6 @@
 -- Laws of texts that are put on a page. Assumes nothing.
 use Prim.Native.Nat.{ℕ, zero, suc, _+_, _-_, _*_, _≤_, _<_}
-use mathlib.Core.Path.{_≡_, refl, sym, ap, _∙_}
+use mathlib.Core.Path.{_≡_, refl, sym, ap, subst, _∙_}
 use mathlib.Core.List.{List, [], _∷_, _++_, append-assoc, append-nil}
 use native.Mathlib.Omega.{arith}
 use native.Mathlib.Nat.{add-zero, le-of-lt}
@@ -14,6 +14,9 @@ pub written-both : (a b page : List ℕ) (at : ℕ) → written page at (a ++ b)
 unfolding written
 written-both [] b page at = rw (add-zero at)
 written-both (c ∷ a) b page at = let e : at + 1 + length a ≡ at + suc (length a) = omega arith in rw (written-both a b (set page at c) (at + 1), e)
+
+pub puts-same : {a b : List ℕ} {at r : ℕ} {p q : List ℕ} → a ≡ b → Puts a at p r q → Puts b at p r q
+puts-same {a} {b} {at} {r} {p} {q} e x = subst (λ (l : List ℕ). Puts l at p r q) e x
 
 pub puts-none : {at : ℕ} {p : List ℕ} → Puts [] at p at p
 unfolding written

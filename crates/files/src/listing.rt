@@ -1,6 +1,8 @@
 // The listing of `boxes`: one line per arc.
 ghost use Prim.Native.Nat.{_+_, _*_, _≤_};
 ghost use lib.ListN.{length};
+ghost use Rattle.files.specs.Page.{Puts};
+ghost use Rattle.files.specs.Listing.{countField, wholeField, boxText, lineText, listing};
 use crate::page::PAGE;
 use crate::page::put;
 use crate::page::put_count;
@@ -9,6 +11,7 @@ use crate::page::put_number;
 // A number and a space.
 fn put_count_field(page: &mut [u8; PAGE], at: usize, n: u32) -> usize
     requires { ⌜ at + 21 ≤ 368640 ⌝ }
+    ensures { λ r. ⌜ Puts (countField n) at (now (page .entry)) r (now (page .exit)) ⌝ }
     ensures { λ r. ⌜ r ≤ at + 21 ⌝ }
 {
     let end = put_count(page, at, n);
@@ -17,6 +20,7 @@ fn put_count_field(page: &mut [u8; PAGE], at: usize, n: u32) -> usize
 
 fn put_number_field(page: &mut [u8; PAGE], at: usize, z: i32) -> usize
     requires { ⌜ at + 22 ≤ 368640 ⌝ }
+    ensures { λ r. ⌜ Puts (wholeField z) at (now (page .entry)) r (now (page .exit)) ⌝ }
     ensures { λ r. ⌜ r ≤ at + 22 ⌝ }
 {
     let end = put_number(page, at, z);
@@ -26,6 +30,7 @@ fn put_number_field(page: &mut [u8; PAGE], at: usize, z: i32) -> usize
 // The four sides of an arc's box, and the line's end.
 fn put_box(page: &mut [u8; PAGE], at: usize, boxes: &[i32], k: usize) -> usize
     requires { ⌜ (at + 88 ≤ 368640) × (k + 4 ≤ length (now boxes)) ⌝ }
+    ensures { λ r. ⌜ Puts (boxText (now (boxes .entry)) k) at (now (page .entry)) r (now (page .exit)) ⌝ }
     ensures { λ r. ⌜ r ≤ at + 88 ⌝ }
 {
     let a = put_number_field(page, at, boxes[k]);
@@ -46,6 +51,7 @@ fn put_line(
     boxes: &[i32],
 ) -> usize
     requires { ⌜ (at + 176 ≤ 368640) × (i + 1 ≤ 2048) × (i + 1 ≤ length (now tails)) × (i + 1 ≤ length (now heads)) × (i + 1 ≤ length (now weights)) × (4 * (i + 1) ≤ length (now boxes)) ⌝ }
+    ensures { λ r. ⌜ Puts (lineText (now (tails .entry)) (now (heads .entry)) (now (weights .entry)) (now (boxes .entry)) i) at (now (page .entry)) r (now (page .exit)) ⌝ }
     ensures { λ r. ⌜ r ≤ at + 176 ⌝ }
 {
     let a = put_count_field(page, at, (i + 1) as u32);
@@ -65,6 +71,7 @@ pub fn put_listing(
     boxes: &[i32],
 ) -> usize
     requires { ⌜ (m ≤ 2048) × (m ≤ length (now tails)) × (m ≤ length (now heads)) × (m ≤ length (now weights)) × (4 * m ≤ length (now boxes)) ⌝ }
+    ensures { λ r. ⌜ Puts (listing (now (tails .entry)) (now (heads .entry)) (now (weights .entry)) (now (boxes .entry)) m) 0 (now (page .entry)) r (now (page .exit)) ⌝ }
     ensures { λ r. ⌜ r ≤ 368640 ⌝ }
 {
     let mut at = 0;
