@@ -1,3 +1,3 @@
 pub mod PieceLaws
-mod NumberLaws
+pub mod NumberLaws
 mod FormLaws
