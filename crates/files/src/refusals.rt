@@ -66,16 +66,34 @@ fn put_words(page: &mut [u8; PAGE], at: usize, r: Refusal) -> usize
             return put(page, at, b"a lent row is too short");
         }
         Refusal::NoForm { line } => {
-            return put_between(page, at, b"line ", line, b" is not spelt like a line of this kind of file");
+            return put_between(
+                page,
+                at,
+                b"line ",
+                line,
+                b" is not spelt like a line of this kind of file",
+            );
         }
         Refusal::OutOfOrder { line } => {
-            return put_between(page, at, b"line ", line, b" is data before the p line or a second p line");
+            return put_between(
+                page,
+                at,
+                b"line ",
+                line,
+                b" is data before the p line or a second p line",
+            );
         }
         Refusal::BeyondLimits { line } => {
             if line == 0 {
                 return put(page, at, b"n, m or the new weight is beyond its limits");
             }
-            return put_between(page, at, b"a number in line ", line, b" is beyond its limits");
+            return put_between(
+                page,
+                at,
+                b"a number in line ",
+                line,
+                b" is beyond its limits",
+            );
         }
         Refusal::CountsDisagree { line } => {
             return put_between(page, at, b"the counts disagree at line ", line, b"");
@@ -96,7 +114,13 @@ fn put_words(page: &mut [u8; PAGE], at: usize, r: Refusal) -> usize
             return put(page, at, b"the source, target or arc is not in the network");
         }
         Refusal::NoWalk { settled } => {
-            return put_between(page, at, b"no walk leads from the source to the target, settled ", settled, b"");
+            return put_between(
+                page,
+                at,
+                b"no walk leads from the source to the target, settled ",
+                settled,
+                b"",
+            );
         }
         Refusal::BoxMisses { arc, node } => {
             let a = put_between(page, at, b"the box of arc ", arc, b" misses node ");

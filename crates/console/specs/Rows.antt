@@ -1,0 +1,33 @@
+-- The console's rows and what is lent of them. Assumes nothing: these are definitions.
+use Prim.Native.Nat.{ℕ, _≤_}
+use mathlib.Core.Path.{_≡_}
+use mathlib.Core.List.{List}
+use lib.IntN.{ℤ}
+use lib.ListN.{length}
+use Rattle.console.specs.declared.rows.Lent.{Lent}
+use Rattle.console.specs.declared.rows.Done.{Done}
+
+-- no more places of a row are lent than the console has
+pub record Within (lent : Lent) : Type 0 where
+  pub tails : lent .tails ≤ 4096
+  pub heads : lent .heads ≤ 4096
+  pub weights : lent .weights ≤ 4096
+  pub x : lent .x ≤ 1024
+  pub y : lent .y ≤ 1024
+  pub boxes : lent .boxes ≤ 16384
+  pub route : lent .route ≤ 1024
+
+-- the places that the console has of each row
+pub record Full (tails heads weights : List ℕ) (x y boxes : List ℤ) (route : List ℕ) : Type 0 where
+  pub tails : length tails ≡ 4096
+  pub heads : length heads ≡ 4096
+  pub weights : length weights ≡ 4096
+  pub x : length x ≡ 1024
+  pub y : length y ≡ 1024
+  pub boxes : length boxes ≡ 16384
+  pub route : length route ≡ 1024
+
+-- a command leaves what is lent within the rows, and its reply on the page
+pub record Well (done : Done) : Type 0 where
+  pub lent : Within (done .lent)
+  pub end : done .end ≤ 368640
