@@ -18,14 +18,14 @@ pub record Within (lent : Lent) : Type 0 where
   pub route : lent .route ≤ 1024
 
 -- the places that the console has of each row
-pub record Full (tails heads weights : List ℕ) (x y boxes : List ℤ) (route : List ℕ) : Type 0 where
-  pub tails : length tails ≡ 4096
-  pub heads : length heads ≡ 4096
-  pub weights : length weights ≡ 4096
-  pub x : length x ≡ 1024
-  pub y : length y ≡ 1024
-  pub boxes : length boxes ≡ 16384
-  pub route : length route ≡ 1024
+pub record Full (ts hs ws : List ℕ) (xs ys bs : List ℤ) (rs : List ℕ) : Type 0 where
+  pub tails : length ts ≡ 4096
+  pub heads : length hs ≡ 4096
+  pub weights : length ws ≡ 4096
+  pub x : length xs ≡ 1024
+  pub y : length ys ≡ 1024
+  pub boxes : length bs ≡ 16384
+  pub route : length rs ≡ 1024
 
 -- a command leaves what is lent within the rows, and its reply on the page
 pub record Well (done : Done) : Type 0 where

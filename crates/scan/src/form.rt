@@ -60,19 +60,37 @@ pub enum Fields {
 pub fn no_numbers() -> Numbers
     ensures { λ r. ⌜ r ≡ none ⌝ }
 {
-    Numbers { first: 0, second: 0, third: 0, x: 0, y: 0 }
+    Numbers {
+        first: 0,
+        second: 0,
+        third: 0,
+        x: 0,
+        y: 0,
+    }
 }
 
 fn add_natural(ns: Numbers, v: u32) -> Numbers
     ensures { λ r. ⌜ r ≡ oneNatural ns v ⌝ }
 {
-    Numbers { first: ns.second, second: ns.third, third: v, x: ns.x, y: ns.y }
+    Numbers {
+        first: ns.second,
+        second: ns.third,
+        third: v,
+        x: ns.x,
+        y: ns.y,
+    }
 }
 
 fn add_integer(ns: Numbers, z: i32) -> Numbers
     ensures { λ r. ⌜ r ≡ oneInteger ns z ⌝ }
 {
-    Numbers { first: ns.first, second: ns.second, third: ns.third, x: ns.y, y: z }
+    Numbers {
+        first: ns.first,
+        second: ns.second,
+        third: ns.third,
+        x: ns.y,
+        y: z,
+    }
 }
 
 // The field s where the form has `form`, after the numbers ns.
@@ -114,16 +132,25 @@ fn read_fields(form: &[u8], s: &[u8]) -> Fields
         let e = first_at(t, 32);
         let f = take_field(front(p, d), front(t, e), ns);
         let Field::Taken(more) = f else {
-            return Fields::Unread(Fault { kind: Kind::Misspelt, column: j + 1 });
+            return Fields::Unread(Fault {
+                kind: Kind::Misspelt,
+                column: j + 1,
+            });
         };
         if p.len() <= d {
             if t.len() <= e {
                 return Fields::Read(more);
             }
-            return Fields::Unread(Fault { kind: Kind::Extra, column: j + e + 2 });
+            return Fields::Unread(Fault {
+                kind: Kind::Extra,
+                column: j + e + 2,
+            });
         }
         if t.len() <= e {
-            return Fields::Unread(Fault { kind: Kind::Missing, column: j + e + 1 });
+            return Fields::Unread(Fault {
+                kind: Kind::Missing,
+                column: j + e + 1,
+            });
         }
         ns = more;
         i = i + d + 1;
@@ -146,7 +173,10 @@ pub fn read_line(s: &[u8], problem: &[u8], data: &[u8]) -> Line
     ensures { λ r. ⌜ heldLine r ≡ heldLine (lineOf (now (problem .entry)) (now («data» .entry)) (now (s .entry))) ⌝ }
 {
     if s.len() == 0 {
-        return Line::Faulty(Fault { kind: Kind::EmptyLine, column: 1 });
+        return Line::Faulty(Fault {
+            kind: Kind::EmptyLine,
+            column: 1,
+        });
     }
     let letter = front(s, first_at(s, 32));
     if same_bytes(letter, b"c") {
@@ -162,5 +192,8 @@ pub fn read_line(s: &[u8], problem: &[u8], data: &[u8]) -> Line
     if same_bytes(letter, front(data, first_at(data, 32))) {
         return data_line(read_fields(data, s));
     }
-    Line::Faulty(Fault { kind: Kind::NoLetter, column: 1 })
+    Line::Faulty(Fault {
+        kind: Kind::NoLetter,
+        column: 1,
+    })
 }
