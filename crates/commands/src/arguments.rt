@@ -1,6 +1,8 @@
 // What stands after a command's first word.
+use crate::Call;
 use crate::Command;
 use crate::Fault;
+use crate::Shown;
 use crate::faults::Judged;
 use crate::faults::judge_values;
 use crate::numbers::Count;
@@ -61,10 +63,10 @@ pub fn show_of(words: &[u8], count: usize) -> Command {
         return Command::Faulty(Fault::NoRow);
     };
     if count == 2 {
-        return Command::Show(row);
+        return Command::Show(row, Shown::All);
     }
     match read_count(after_word(words)) {
-        Count::Is(k) => Command::ShowFirst(row, k),
+        Count::Is(k) => Command::Show(row, Shown::First(k)),
         Count::Not(fault) => Command::Faulty(fault),
     }
 }
@@ -84,9 +86,9 @@ pub fn number_of(verb: Verb, words: &[u8]) -> Command {
 pub fn pair_of(verb: Verb, words: &[u8]) -> Command {
     match read_pair(words) {
         Pair::Are(a, b) => match verb {
-            Verb::Update => Command::Update(a, b),
-            Verb::Search => Command::Search(a, b),
-            _ => Command::Boxed(a, b),
+            Verb::Update => Command::Call(Call::Update(a, b)),
+            Verb::Search => Command::Call(Call::Search(a, b)),
+            _ => Command::Call(Call::Boxed(a, b)),
         },
         Pair::Not(fault) => Command::Faulty(fault),
     }

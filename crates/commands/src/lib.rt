@@ -34,21 +34,31 @@ pub enum Fault {
     FewerLent,
 }
 
+// The calls on a network that has been lent.
+pub enum Call {
+    Build,
+    Check,
+    Update(u32, u32),
+    Search(u32, u32),
+    Boxed(u32, u32),
+}
+
+// Which of a row's lent places are shown.
+pub enum Shown {
+    All,
+    First(u32),
+}
+
 // What a line asks for. The values of `lend` and the name of a file are read from the line again.
 pub enum Command {
     Faulty(Fault),
     SetN(u32),
     SetM(u32),
     Lend(Row),
-    Show(Row),
-    ShowFirst(Row, u32),
+    Show(Row, Shown),
     ReadGr,
     ReadCo,
-    Build,
-    Check,
-    Update(u32, u32),
-    Search(u32, u32),
-    Boxed(u32, u32),
+    Call(Call),
     Fresh,
     Help,
 }
@@ -66,8 +76,8 @@ fn ask(verb: Verb, words: &[u8], count: usize) -> Command {
         Verb::Show => show_of(words, count),
         Verb::Gr => Command::ReadGr,
         Verb::Co => Command::ReadCo,
-        Verb::Build => Command::Build,
-        Verb::Check => Command::Check,
+        Verb::Build => Command::Call(Call::Build),
+        Verb::Check => Command::Call(Call::Check),
         Verb::Update | Verb::Search | Verb::Boxed => pair_of(verb, words),
         Verb::Fresh => Command::Fresh,
         Verb::Help => Command::Help,

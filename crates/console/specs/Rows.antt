@@ -5,7 +5,7 @@ use mathlib.Core.List.{List}
 use lib.IntN.{ℤ}
 use lib.ListN.{length}
 use Rattle.console.specs.declared.rows.Lent.{Lent}
-use Rattle.console.specs.declared.rows.Done.{Done}
+use Rattle.console.specs.declared.rows.State.{State}
 
 -- no more places of a row are lent than the console has
 pub record Within (lent : Lent) : Type 0 where
@@ -27,7 +27,7 @@ pub record Full (ts hs ws : List ℕ) (xs ys bs : List ℤ) (rs : List ℕ) : Ty
   pub boxes : length bs ≡ 16384
   pub route : length rs ≡ 1024
 
--- a command leaves what is lent within the rows, and its reply on the page
-pub record Well (done : Done) : Type 0 where
-  pub lent : Within (done .lent)
-  pub end : done .end ≤ 368640
+-- what is lent lies within the rows, and the last reply within the page
+pub record Well (state : State) : Type 0 where
+  pub lent : Within (state .lent)
+  pub end : state .end ≤ 368640

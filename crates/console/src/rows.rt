@@ -1,12 +1,9 @@
-// What is lent to the calls.
-ghost use Prim.Native.Nat.{_≤_};
-ghost use Rattle.console.specs.Rows.{Within};
-use commands::verbs::Row;
+// The console's rows, and what is lent of them.
+ghost use Rattle.console.specs.Rows.{Well};
+use replies::obey::Sizes;
 
-// The numbers n and m, and how many places of each row are lent, from the first on.
+// How many places of each row are lent, from the first on.
 pub struct Lent {
-    pub n: u32,
-    pub m: u32,
     pub tails: usize,
     pub heads: usize,
     pub weights: usize,
@@ -16,50 +13,29 @@ pub struct Lent {
     pub route: usize,
 }
 
-// What a command leaves: what is lent from now on, and where its reply ends on the page.
-pub struct Done {
+// What is lent, the numbers n and m, and where the last reply ends on the page.
+pub struct State {
     pub lent: Lent,
+    pub sizes: Sizes,
     pub end: usize,
 }
 
-// All places of each row, as at the start.
-pub fn all_places() -> Lent
-    ensures { λ r. ⌜ Within r ⌝ }
+// All places of each row are lent, and n and m are 0.
+pub fn start() -> State
+    ensures { λ r. ⌜ Well r ⌝ }
 {
-    Lent {
-        n: 0,
-        m: 0,
-        tails: 4096,
-        heads: 4096,
-        weights: 4096,
-        x: 1024,
-        y: 1024,
-        boxes: 16384,
-        route: 1024,
-    }
-}
-
-impl Lent {
-    pub fn with_sizes(mut self, n: u32, m: u32) -> Lent
-        requires { ⌜ Within self ⌝ }
-        ensures { λ r. ⌜ Within r ⌝ }
-    {
-        self.n = n;
-        self.m = m;
-        self
-    }
-
-    // How many places of a row are lent.
-    pub fn places(self, row: Row) -> usize {
-        match row {
-            Row::Tails => self.tails,
-            Row::Heads => self.heads,
-            Row::Weights => self.weights,
-            Row::X => self.x,
-            Row::Y => self.y,
-            Row::Boxes => self.boxes,
-            Row::Route => self.route,
-        }
+    State {
+        lent: Lent {
+            tails: 4096,
+            heads: 4096,
+            weights: 4096,
+            x: 1024,
+            y: 1024,
+            boxes: 16384,
+            route: 1024,
+        },
+        sizes: Sizes { n: 0, m: 0 },
+        end: 0,
     }
 }
 
@@ -78,4 +54,23 @@ pub fn clear_numbers(row: &mut [i32]) {
         row[i] = 0;
         i += 1;
     }
+}
+
+// `fresh`: all rows are 0.
+pub fn clear_rows(
+    tails: &mut [u32],
+    heads: &mut [u32],
+    weights: &mut [u32],
+    x: &mut [i32],
+    y: &mut [i32],
+    boxes: &mut [i32],
+    route: &mut [u32],
+) {
+    clear_counts(tails);
+    clear_counts(heads);
+    clear_counts(weights);
+    clear_numbers(x);
+    clear_numbers(y);
+    clear_numbers(boxes);
+    clear_counts(route);
 }

@@ -3,10 +3,10 @@ use mathlib.Core.Path.{_≡_}
 use native.Mathlib.Omega.{arith}
 use lib.ListN.{length, length-set}
 use borrow.Author.Needs.{needs}
-use Rattle.console.proofs.showing.put_counts.Statement.{statement}
-use Rattle.console.proofs.showing.put_counts.Tie as tie
-use Rattle.console.proofs.showing.put_counts.Reads as reads
-use Rattle.console.proofs.showing.put_counts.Lts as lts
+use Rattle.replies.proofs.showing.put_counts.Statement.{statement}
+use Rattle.replies.proofs.showing.put_counts.Tie as tie
+use Rattle.replies.proofs.showing.put_counts.Reads as reads
+use Rattle.replies.proofs.showing.put_counts.Lts as lts
 use Rattle.files.proofs.page.put.Reads as put-reads
 use Rattle.files.proofs.page.put_count.Reads as put-count-reads
 

@@ -3,10 +3,10 @@ use mathlib.Core.Path.{_≡_}
 use native.Mathlib.Omega.{arith}
 use lib.ListN.{length, length-set}
 use borrow.Author.Needs.{needs}
-use Rattle.console.proofs.showing.put_numbers.Statement.{statement}
-use Rattle.console.proofs.showing.put_numbers.Tie as tie
-use Rattle.console.proofs.showing.put_numbers.Reads as reads
-use Rattle.console.proofs.showing.put_numbers.Lts as lts
+use Rattle.replies.proofs.showing.put_numbers.Statement.{statement}
+use Rattle.replies.proofs.showing.put_numbers.Tie as tie
+use Rattle.replies.proofs.showing.put_numbers.Reads as reads
+use Rattle.replies.proofs.showing.put_numbers.Lts as lts
 use Rattle.files.proofs.page.put.Reads as put-reads
 use Rattle.files.proofs.page.put_number.Reads as put-number-reads
 

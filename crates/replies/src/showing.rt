@@ -1,10 +1,10 @@
 // Rows as replies.
-ghost use Prim.Native.Nat.{_+_, _*_, _≤_};
+ghost use Prim.Native.Nat.{_≤_};
 ghost use lib.ListN.{length};
-ghost use Rattle.console.specs.Rows.{Within, Full};
-use crate::replies::put_fault;
-use crate::rows::Lent;
+ghost use Rattle.replies.specs.Rows.{Short};
+use crate::words::put_fault;
 use commands::Fault;
+use commands::Shown;
 use commands::verbs::Row;
 use files::page::PAGE;
 use files::page::put;
@@ -40,12 +40,20 @@ pub fn put_numbers(page: &mut [u8; PAGE], start: usize, row: &[i32]) -> usize
     at
 }
 
-// A row's name and its first k numbers, where so many are lent.
-fn show_counts(page: &mut [u8; PAGE], name: &[u8], row: &[u32], lent: usize, k: usize) -> usize
-    requires { ⌜ (length (now name) ≤ 100) × (length (now row) ≤ 16384) × (lent ≤ length (now row)) ⌝ }
+fn how_many(shown: Shown, lent: usize) -> usize {
+    match shown {
+        Shown::All => lent,
+        Shown::First(k) => k as usize,
+    }
+}
+
+// A row's name and the numbers to be shown, where so many are lent.
+fn show_counts(page: &mut [u8; PAGE], name: &[u8], row: &[u32], shown: Shown) -> usize
+    requires { ⌜ (length (now name) ≤ 100) × (length (now row) ≤ 16384) ⌝ }
     ensures { λ r. ⌜ r ≤ 368640 ⌝ }
 {
-    if lent < k {
+    let k = how_many(shown, row.len());
+    if row.len() < k {
         return put_fault(page, Fault::FewerLent);
     }
     let a = put(page, 0, name);
@@ -53,11 +61,12 @@ fn show_counts(page: &mut [u8; PAGE], name: &[u8], row: &[u32], lent: usize, k: 
     put(page, b, b"\n")
 }
 
-fn show_numbers(page: &mut [u8; PAGE], name: &[u8], row: &[i32], lent: usize, k: usize) -> usize
-    requires { ⌜ (length (now name) ≤ 100) × (length (now row) ≤ 16384) × (lent ≤ length (now row)) ⌝ }
+fn show_numbers(page: &mut [u8; PAGE], name: &[u8], row: &[i32], shown: Shown) -> usize
+    requires { ⌜ (length (now name) ≤ 100) × (length (now row) ≤ 16384) ⌝ }
     ensures { λ r. ⌜ r ≤ 368640 ⌝ }
 {
-    if lent < k {
+    let k = how_many(shown, row.len());
+    if row.len() < k {
         return put_fault(page, Fault::FewerLent);
     }
     let a = put(page, 0, name);
@@ -65,12 +74,11 @@ fn show_numbers(page: &mut [u8; PAGE], name: &[u8], row: &[i32], lent: usize, k:
     put(page, b, b"\n")
 }
 
-// `show`: the first k places of a row.
+// `show`.
 pub fn show_row(
     page: &mut [u8; PAGE],
-    lent: Lent,
     row: Row,
-    k: usize,
+    shown: Shown,
     tails: &[u32],
     heads: &[u32],
     weights: &[u32],
@@ -79,30 +87,30 @@ pub fn show_row(
     boxes: &[i32],
     route: &[u32],
 ) -> usize
-    requires { ⌜ Within lent × Full (now tails) (now heads) (now weights) (now x) (now y) (now boxes) (now route) ⌝ }
+    requires { ⌜ Short (now tails) (now heads) (now weights) (now x) (now y) (now boxes) (now route) ⌝ }
     ensures { λ r. ⌜ r ≤ 368640 ⌝ }
 {
     match row {
         Row::Tails => {
-            return show_counts(page, b"tails", tails, lent.tails, k);
+            return show_counts(page, b"tails", tails, shown);
         }
         Row::Heads => {
-            return show_counts(page, b"heads", heads, lent.heads, k);
+            return show_counts(page, b"heads", heads, shown);
         }
         Row::Weights => {
-            return show_counts(page, b"weights", weights, lent.weights, k);
+            return show_counts(page, b"weights", weights, shown);
         }
         Row::X => {
-            return show_numbers(page, b"x", x, lent.x, k);
+            return show_numbers(page, b"x", x, shown);
         }
         Row::Y => {
-            return show_numbers(page, b"y", y, lent.y, k);
+            return show_numbers(page, b"y", y, shown);
         }
         Row::Boxes => {
-            return show_numbers(page, b"boxes", boxes, lent.boxes, k);
+            return show_numbers(page, b"boxes", boxes, shown);
         }
         Row::Route => {
-            return show_counts(page, b"route", route, lent.route, k);
+            return show_counts(page, b"route", route, shown);
         }
     }
 }
