@@ -48,21 +48,33 @@ pub fn answer(
     let lent = state.lent;
     let sizes = state.sizes;
     if ended & (length == 0) {
-        return State { lent, sizes, end: 0 };
+        return State {
+            lent,
+            sizes,
+            end: 0,
+        };
     }
     let command = asked(line, length);
     let words = heard(line, length);
     match command {
         Command::Lend(row) => {
             let more = lend(words, lent, row, tails, heads, weights, x, y, boxes, route);
-            return State { lent: more, sizes, end: put_ok(page) };
+            return State {
+                lent: more,
+                sizes,
+                end: put_ok(page),
+            };
         }
         Command::Fresh => {
             clear_rows(tails, heads, weights, x, y, boxes, route);
             let again = start();
             let all = again.lent;
             let none = again.sizes;
-            return State { lent: all, sizes: none, end: put_ok(page) };
+            return State {
+                lent: all,
+                sizes: none,
+                end: put_ok(page),
+            };
         }
         _ => {
             let a = lent.tails;
@@ -86,7 +98,11 @@ pub fn answer(
                 &mut route[0..g],
             );
             let more = done.sizes;
-            return State { lent, sizes: more, end: done.end };
+            return State {
+                lent,
+                sizes: more,
+                end: done.end,
+            };
         }
     }
 }

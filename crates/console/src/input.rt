@@ -25,8 +25,10 @@ pub struct Heard {
 fn next_byte(chunk: &mut [u8; 4096], input: Input) -> Next {
     let at = input.at;
     let end = input.end;
-    if (at < end) & (at < 4096) {
-        return Next::Byte(chunk[at], Input { at: at + 1, end });
+    if at < end {
+        if at < 4096 {
+            return Next::Byte(chunk[at], Input { at: at + 1, end });
+        }
     }
     let got = libc::read(STDIN_FILENO, chunk);
     let n = io::count(got, chunk);
@@ -53,14 +55,26 @@ pub fn read_line(line: &mut [u8], chunk: &mut [u8; 4096], input: Input) -> Heard
     while left > 0 {
         let next = next_byte(chunk, ahead);
         let Next::Byte(byte, more) = next else {
-            return Heard { length, ended: true, input: ahead };
+            return Heard {
+                length,
+                ended: true,
+                input: ahead,
+            };
         };
         ahead = more;
         if byte == 10 {
-            return Heard { length, ended: false, input: ahead };
+            return Heard {
+                length,
+                ended: false,
+                input: ahead,
+            };
         }
         length = hear(line, length, byte);
         left -= 1;
     }
-    Heard { length, ended: true, input: ahead }
+    Heard {
+        length,
+        ended: true,
+        input: ahead,
+    }
 }

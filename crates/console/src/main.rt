@@ -46,7 +46,20 @@ fn converse(
     while turns > 0 {
         let heard = read_line(line, &mut chunk, ahead);
         ahead = heard.input;
-        state = answer(page, line, heard.length, heard.ended, state, tails, heads, weights, x, y, boxes, route);
+        state = answer(
+            page,
+            line,
+            heard.length,
+            heard.ended,
+            state,
+            tails,
+            heads,
+            weights,
+            x,
+            y,
+            boxes,
+            route,
+        );
         out(page, state.end);
         turns = turns_left(heard.ended, turns);
     }

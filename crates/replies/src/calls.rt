@@ -67,20 +67,41 @@ pub fn make(
     let m = sizes.m;
     match call {
         Call::Build => {
-            return put_judged(page, boxwork::build(n, m, tails, heads, weights, x, y, boxes));
+            return put_judged(
+                page,
+                boxwork::build(n, m, tails, heads, weights, x, y, boxes),
+            );
         }
         Call::Check => {
-            return put_judged(page, boxwork::check(n, m, tails, heads, weights, x, y, boxes));
+            return put_judged(
+                page,
+                boxwork::check(n, m, tails, heads, weights, x, y, boxes),
+            );
         }
         Call::Update(arc, weight) => {
-            return put_judged(page, boxwork::update(n, m, tails, heads, weights, x, y, boxes, arc, weight));
+            return put_judged(
+                page,
+                boxwork::update(n, m, tails, heads, weights, x, y, boxes, arc, weight),
+            );
         }
         Call::Search(s, t) => {
             let answer = search::search(n, m, tails, heads, weights, s, t, route);
             return put_answer(page, answer, route);
         }
         Call::Boxed(s, t) => {
-            let answer = search::search_boxed(n, m, tails, heads, weights, x, y, boxes, s, t, route);
+            let answer = search::search_boxed(
+                n,
+                m,
+                tails,
+                heads,
+                weights,
+                x,
+                y,
+                boxes,
+                s,
+                t,
+                route,
+            );
             return put_answer(page, answer, route);
         }
     }

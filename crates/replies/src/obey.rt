@@ -43,13 +43,22 @@ pub fn obey(
 {
     match command {
         Command::Faulty(fault) => {
-            return Done { sizes, end: put_fault(page, fault) };
+            return Done {
+                sizes,
+                end: put_fault(page, fault),
+            };
         }
         Command::SetN(n) => {
-            return Done { sizes: Sizes { n, m: sizes.m }, end: put_ok(page) };
+            return Done {
+                sizes: Sizes { n, m: sizes.m },
+                end: put_ok(page),
+            };
         }
         Command::SetM(m) => {
-            return Done { sizes: Sizes { n: sizes.n, m }, end: put_ok(page) };
+            return Done {
+                sizes: Sizes { n: sizes.n, m },
+                end: put_ok(page),
+            };
         }
         Command::Show(row, shown) => {
             let end = show_row(page, row, shown, tails, heads, weights, x, y, boxes, route);
@@ -59,17 +68,26 @@ pub fn obey(
             return read_graph(page, line, sizes, tails, heads, weights);
         }
         Command::ReadCo => {
-            return Done { sizes, end: read_places(page, line, sizes.n, x, y) };
+            return Done {
+                sizes,
+                end: read_places(page, line, sizes.n, x, y),
+            };
         }
         Command::Call(call) => {
             let end = make(page, call, sizes, tails, heads, weights, x, y, boxes, route);
             return Done { sizes, end };
         }
         Command::Lend(_) | Command::Fresh => {
-            return Done { sizes, end: put_ok(page) };
+            return Done {
+                sizes,
+                end: put_ok(page),
+            };
         }
         Command::Help => {
-            return Done { sizes, end: put_help(page) };
+            return Done {
+                sizes,
+                end: put_help(page),
+            };
         }
     }
 }

@@ -39,21 +39,36 @@ pub fn read_graph(
     let mut text = [0u8; 65537];
     let file = read_file(after_word(line), &mut text);
     let File::Bytes(k) = file else {
-        return Done { sizes, end: put_no_file(page) };
+        return Done {
+            sizes,
+            end: put_no_file(page),
+        };
     };
     let reply = dimacs::read_gr(&text[0..k], tails, heads, weights);
     match reply {
         GrReply::Read(n, m) => {
-            return Done { sizes: Sizes { n, m }, end: put_sizes(page, n, m) };
+            return Done {
+                sizes: Sizes { n, m },
+                end: put_sizes(page, n, m),
+            };
         }
         GrReply::Refused(r) => {
-            return Done { sizes, end: put_refusal(page, r) };
+            return Done {
+                sizes,
+                end: put_refusal(page, r),
+            };
         }
     }
 }
 
 // `co`.
-pub fn read_places(page: &mut [u8; PAGE], line: &[u8], n: u32, x: &mut [i32], y: &mut [i32]) -> usize
+pub fn read_places(
+    page: &mut [u8; PAGE],
+    line: &[u8],
+    n: u32,
+    x: &mut [i32],
+    y: &mut [i32],
+) -> usize
     ensures { λ r. ⌜ r ≤ 368640 ⌝ }
 {
     let mut text = [0u8; 65537];
