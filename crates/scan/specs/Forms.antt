@@ -1,5 +1,6 @@
 -- The forms of a line, read field by field from left to right; the first fault decides. Assumes nothing: these are definitions.
 use Prim.Native.Nat.{ℕ, _+_, _-_}
+use Prim.Native.Char.{code}
 use mathlib.Core.List.{List, [], _∷_}
 use mathlib.Core.Bool.{Bool, true, false, cond, _&&_}
 use lib.Dec.{eqb, leb}
@@ -47,8 +48,8 @@ takenInteger ns NoWhole = NotTaken
 unfoldable pub taken : List ℕ → List ℕ → Numbers → Field
 taken form s ns =
     let b = getD form 0 0 in
-    cond (leb 65 b && leb b 90)
-    (cond (leb 88 b) (takenInteger ns (integerOf s)) (takenNatural ns (naturalOf s)))
+    cond (leb (code "A") b && leb b (code "Z"))
+    (cond (leb (code "X") b) (takenInteger ns (integerOf s)) (takenNatural ns (naturalOf s)))
     (cond (sameBytes s form) (Taken ns) NotTaken)
 
 -- ---- the fields of a line
@@ -80,7 +81,7 @@ dataLine (Read ns) = Data ns
 dataLine (Unread f) = Faulty f
 
 abbrev pub letter-c : List ℕ
-letter-c = 99 ∷ []
+letter-c = code "c" ∷ []
 
 -- the line s of a format whose problem line has the form `problem` and whose data lines have the form `rows`
 unfoldable pub lineOf : List ℕ → List ℕ → List ℕ → Line

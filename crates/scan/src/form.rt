@@ -60,19 +60,37 @@ pub enum Fields {
 pub fn no_numbers() -> Numbers
     ensures { λ r. ⌜ r ≡ none ⌝ }
 {
-    Numbers { first: 0, second: 0, third: 0, x: 0, y: 0 }
+    Numbers {
+        first: 0,
+        second: 0,
+        third: 0,
+        x: 0,
+        y: 0,
+    }
 }
 
 fn add_natural(ns: Numbers, v: u32) -> Numbers
     ensures { λ r. ⌜ r ≡ oneNatural ns v ⌝ }
 {
-    Numbers { first: ns.second, second: ns.third, third: v, x: ns.x, y: ns.y }
+    Numbers {
+        first: ns.second,
+        second: ns.third,
+        third: v,
+        x: ns.x,
+        y: ns.y,
+    }
 }
 
 fn add_integer(ns: Numbers, z: i32) -> Numbers
     ensures { λ r. ⌜ r ≡ oneInteger ns z ⌝ }
 {
-    Numbers { first: ns.first, second: ns.second, third: ns.third, x: ns.y, y: z }
+    Numbers {
+        first: ns.first,
+        second: ns.second,
+        third: ns.third,
+        x: ns.y,
+        y: z,
+    }
 }
 
 // The field s where the form has `form`, after the numbers ns.
@@ -80,8 +98,8 @@ fn take_field(form: &[u8], s: &[u8], ns: Numbers) -> Field
     ensures { λ r. ⌜ heldField r ≡ heldField (taken (now (form .entry)) (now (s .entry)) ns) ⌝ }
 {
     let b = first_byte(form);
-    if (65 <= b) & (b <= 90) {
-        if 88 <= b {
+    if (b'A' <= b) & (b <= b'Z') {
+        if b'X' <= b {
             let z = read_integer(s);
             let Integer::Whole(w) = z else {
                 return Field::NotTaken;
@@ -110,20 +128,29 @@ fn read_fields(form: &[u8], s: &[u8]) -> Fields
     loop {
         let p = rest(form, i);
         let t = rest(s, j);
-        let d = first_at(p, 32);
-        let e = first_at(t, 32);
+        let d = first_at(p, b' ');
+        let e = first_at(t, b' ');
         let f = take_field(front(p, d), front(t, e), ns);
         let Field::Taken(more) = f else {
-            return Fields::Unread(Fault { kind: Kind::Misspelt, column: j + 1 });
+            return Fields::Unread(Fault {
+                kind: Kind::Misspelt,
+                column: j + 1,
+            });
         };
         if p.len() <= d {
             if t.len() <= e {
                 return Fields::Read(more);
             }
-            return Fields::Unread(Fault { kind: Kind::Extra, column: j + e + 2 });
+            return Fields::Unread(Fault {
+                kind: Kind::Extra,
+                column: j + e + 2,
+            });
         }
         if t.len() <= e {
-            return Fields::Unread(Fault { kind: Kind::Missing, column: j + e + 1 });
+            return Fields::Unread(Fault {
+                kind: Kind::Missing,
+                column: j + e + 1,
+            });
         }
         ns = more;
         i = i + d + 1;
@@ -146,21 +173,27 @@ pub fn read_line(s: &[u8], problem: &[u8], data: &[u8]) -> Line
     ensures { λ r. ⌜ heldLine r ≡ heldLine (lineOf (now (problem .entry)) (now («data» .entry)) (now (s .entry))) ⌝ }
 {
     if s.len() == 0 {
-        return Line::Faulty(Fault { kind: Kind::EmptyLine, column: 1 });
+        return Line::Faulty(Fault {
+            kind: Kind::EmptyLine,
+            column: 1,
+        });
     }
-    let letter = front(s, first_at(s, 32));
+    let letter = front(s, first_at(s, b' '));
     if same_bytes(letter, b"c") {
         return Line::Comment;
     }
-    if same_bytes(letter, front(problem, first_at(problem, 32))) {
+    if same_bytes(letter, front(problem, first_at(problem, b' '))) {
         let f = read_fields(problem, s);
         let Fields::Read(ns) = f else {
             return data_line(f);
         };
         return Line::Problem(ns);
     }
-    if same_bytes(letter, front(data, first_at(data, 32))) {
+    if same_bytes(letter, front(data, first_at(data, b' '))) {
         return data_line(read_fields(data, s));
     }
-    Line::Faulty(Fault { kind: Kind::NoLetter, column: 1 })
+    Line::Faulty(Fault {
+        kind: Kind::NoLetter,
+        column: 1,
+    })
 }
