@@ -1,0 +1,3 @@
+mod Fairness
+mod Reading
+mod RowLaws
