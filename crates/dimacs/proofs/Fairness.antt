@@ -32,7 +32,7 @@ use Rattle.dimacs.specs.declared.sheet.Head.{Head}
 clash : false ≡ true → ⊥
 clash e = let z : _≡_ {A = ℕ} 0 1 = ap (λ (b : Bool). cond b 1 0) e in omega arith
 
-both : (a b : Bool) → a && b ≡ true → (a ≡ true) × (b ≡ true)
+pub both : (a b : Bool) → a && b ≡ true → (a ≡ true) × (b ≡ true)
 both true b e = (refl, e)
 both false b e = absurd (clash e)
 
@@ -51,6 +51,7 @@ fair-of Graph f problem h =
       count = omega arith;
       low = λ e. absurd (clash e);
       high = λ e. absurd (clash e);
+      all = λ e. absurd (clash e);
     }
 fair-of (Coordinates n) f problem h =
     record {
@@ -60,6 +61,7 @@ fair-of (Coordinates n) f problem h =
       count = omega arith;
       low = λ e. omega arith;
       high = λ e. omega arith;
+      all = λ e. omega arith;
     }
 
 -- ---- within its limits
@@ -166,11 +168,11 @@ module _ (l : Limits) (m : ModestLimits l) where
 
 -- ---- what a judgement that is fine says
 
-or-fine : (j k : Judged) → orElse j k ≡ Fine → (j ≡ Fine) × (k ≡ Fine)
+pub or-fine : (j k : Judged) → orElse j k ≡ Fine → (j ≡ Fine) × (k ≡ Fine)
 or-fine Fine k e = (refl, e)
 or-fine (Refused r) k e = absurd (let z : _≡_ {A = ℕ} 0 1 = cc in omega arith)
 
-passes-fine : (b : Bool) (r : Refusal) → passes b r ≡ Fine → b ≡ true
+pub passes-fine : (b : Bool) (r : Refusal) → passes b r ≡ Fine → b ≡ true
 passes-fine true r e = refl
 passes-fine false r e = absurd (let z : _≡_ {A = ℕ} 0 1 = cc in omega arith)
 

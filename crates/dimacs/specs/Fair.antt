@@ -32,6 +32,7 @@ pub record Fair (R : Rules) : Type 0 where
   pub count : R .problem .most .third ≤ 2048
   pub low : R .once ≡ true → 1 ≤ R .entries .least .third
   pub high : R .once ≡ true → R .entries .most .third ≤ 2048
+  pub all : R .once ≡ true → R .entries .most .third ≤ R .fewest
 
 -- a graph that has at most 512 nodes
 abbrev pub FormatFair : Format → Type 0

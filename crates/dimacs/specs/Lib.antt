@@ -7,3 +7,4 @@ pub mod Fair
 pub mod Texts
 pub mod Rows
 pub mod Reading
+pub mod Accepted

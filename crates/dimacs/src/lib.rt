@@ -40,7 +40,7 @@ pub fn read_gr(text: &[u8], tails: &mut [u32], heads: &mut [u32], weights: &mut 
     if rules::TEXT < text.len() {
         return GrReply::Refused(Refusal::TextTooLong);
     }
-    if (tails.len() < 2048) | (heads.len() < 2048) | (weights.len() < 2048) {
+    if !((2048 <= tails.len()) & (2048 <= heads.len()) & (2048 <= weights.len())) {
         return GrReply::Refused(Refusal::RowTooShort);
     }
     let sheet = read_sheet(text, Format::Graph);
@@ -67,10 +67,10 @@ pub fn read_co(text: &[u8], n: u32, x: &mut [i32], y: &mut [i32]) -> CoReply
     if rules::TEXT < text.len() {
         return CoReply::Unlocated(Refusal::TextTooLong);
     }
-    if (x.len() < 512) | (y.len() < 512) {
+    if !((512 <= x.len()) & (512 <= y.len())) {
         return CoReply::Unlocated(Refusal::RowTooShort);
     }
-    if (n < 1) | (rules::NODES < n) {
+    if !((1 <= n) & (n <= rules::NODES)) {
         return CoReply::Unlocated(Refusal::BeyondLimits { line: 0 });
     }
     let sheet = read_sheet(text, Format::Coordinates(n));
