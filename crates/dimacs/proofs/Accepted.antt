@@ -16,6 +16,7 @@ use Rattle.rules.specs.Judging.{orElse, passes}
 use Rattle.rules.specs.declared.Refusal.{Refusal}
 use Rattle.rules.specs.declared.Refusal.the-variants.{TextTooLong, RowTooShort, NoForm, OutOfOrder, BeyondLimits, CountsDisagree, NodeAgain, BadArc, BadCoordinate, BadBox, NotInNetwork, NoWalk, BoxMisses}
 use Rattle.rules.specs.declared.Judged.{Judged}
+use Rattle.rules.specs.declared.Judged.the-variants.{Fine}
 use Rattle.scan.specs.Forms.{none}
 use Rattle.scan.specs.declared.form.Numbers.{Numbers}
 use Rattle.dimacs.specs.Gr.{grRules}
@@ -87,3 +88,68 @@ gr-lines text p lines a b c e =
       head-most = λ k h. rw (front (naturalOf Second) lines b k 0 (at k h)) (line k h .high .second);
       weight = λ k h. rw (front (naturalOf Third) lines c k 0 (at k h)) (line k h .high .third);
     }
+
+-- what was accepted was read
+gr-read : (text a b c : List ℕ) (p : Numbers) (lines : List Numbers) → readGr text a b c ≡ read p lines → readText Graph text ≡ read p lines
+unfolding readGr
+gr-read text a b c p lines e = onward _ _ _ _ e .1
+
+-- the rows that `read_gr` leaves after it said n and m
+pub gr-limits : (text a b c : List ℕ) (n m : ℕ) → grSays (readGr text a b c) ≡ accepted (n ∷ m ∷ [])
+    → GrLimits n m (row (naturalOf First) (readGr text a b c) a) (row (naturalOf Second) (readGr text a b c) b) (row (naturalOf Third) (readGr text a b c) c)
+unfolding grSays row
+gr-limits text a b c n m e = by-outcome (readGr text a b c) (gr-read text a b c) e
+  where
+    by-outcome : (o : Outcome) → ((p : Numbers) (lines : List Numbers) → o ≡ read p lines → readText Graph text ≡ read p lines) → grSays o ≡ accepted (n ∷ m ∷ [])
+        → GrLimits n m (row (naturalOf First) o a) (row (naturalOf Second) o b) (row (naturalOf Third) o c)
+    by-outcome (read p lines) from d =
+        let en : p .second ≡ n = ap (λ (r : Reply). getD (r .values) 0 0) d in
+        let em : p .third ≡ m = ap (λ (r : Reply). getD (r .values) 1 0) d in
+        rw (← en, ← em) (gr-lines text p lines (drop (p .third) a) (drop (p .third) b) (drop (p .third) c) (from p lines refl))
+    by-outcome (refused r) from d = absurd (not-accepted r (n ∷ m ∷ []) d)
+
+-- ---- .co
+
+shown : {a b : ℤ} → leZ a b ≡ true → a ≤ℤ b
+shown {a} {b} e = leZ-yes (rw e tt)
+
+co-lines : (n : ℕ) → n ≤ 512 → (text : List ℕ) (p : Numbers) (lines : List Numbers) (a b : List ℤ) → readText (Coordinates n) text ≡ read p lines
+    → CoLimits n (map (integerOf X) lines ++ a) (map (integerOf Y) lines ++ b)
+unfolding coRules
+co-lines n ok text p lines a b e =
+    let s = sound (Coordinates n) ok text p lines e in
+    let all : p .third ≡ n = co-count n text p lines ok e in
+    let at : (k : ℕ) → k < n → k < length lines = λ k h. omega (arith, s .long) in
+    let line : (k : ℕ) → k < n → Inside (coRules n .entries) (getD lines k none) = λ k h. inside (coRules n .entries) (getD lines k none) (s .entry k (omega arith) .inside) in
+    record {
+      x-least = λ k h. rw (front (integerOf X) lines a k (pos 0) (at k h)) (shown (line k h .low .x));
+      x-most = λ k h. rw (front (integerOf X) lines a k (pos 0) (at k h)) (shown (line k h .high .x));
+      y-least = λ k h. rw (front (integerOf Y) lines b k (pos 0) (at k h)) (shown (line k h .low .y));
+      y-most = λ k h. rw (front (integerOf Y) lines b k (pos 0) (at k h)) (shown (line k h .high .y));
+    }
+
+co-read : (text : List ℕ) (n : ℕ) (a b : List ℤ) (p : Numbers) (lines : List Numbers) → readCo text n a b ≡ read p lines
+    → (n ≤ 512) × (readText (Coordinates n) text ≡ read p lines)
+unfolding readCo
+co-read text n a b p lines e =
+    let wide = leb mostNodes (length a) && leb mostNodes (length b) in
+    let given = passes (leb 1 n && leb n mostNodes) (BeyondLimits 0) in
+    let d = onward _ _ _ _ e in
+    let f = or-fine (passes (leb (length text) longestText) TextTooLong) (orElse (passes wide RowTooShort) (orElse given Fine)) (d .0) in
+    let g = or-fine (passes wide RowTooShort) (orElse given Fine) (f .1) in
+    let h = or-fine given Fine (g .1) in
+    let i = both (leb 1 n) (leb n mostNodes) (passes-fine _ _ (h .0)) in
+    (leb-true _ _ (i .1), d .1)
+
+-- the rows that `read_co` leaves after it accepted
+pub co-limits : (text : List ℕ) (n : ℕ) (a b : List ℤ) → coSays (readCo text n a b) ≡ accepted []
+    → CoLimits n (row (integerOf X) (readCo text n a b) a) (row (integerOf Y) (readCo text n a b) b)
+unfolding coSays row
+co-limits text n a b e = by-outcome (readCo text n a b) (co-read text n a b) e
+  where
+    by-outcome : (o : Outcome) → ((p : Numbers) (lines : List Numbers) → o ≡ read p lines → (n ≤ 512) × (readText (Coordinates n) text ≡ read p lines)) → coSays o ≡ accepted []
+        → CoLimits n (row (integerOf X) o a) (row (integerOf Y) o b)
+    by-outcome (read p lines) from d =
+        let f = from p lines refl in
+        co-lines n (f .0) text p lines (drop (p .third) a) (drop (p .third) b) (f .1)
+    by-outcome (refused r) from d = absurd (not-accepted r [] d)

@@ -5,3 +5,4 @@ mod Reading
 mod Replies
 mod RowLaws
 mod Sound
+pub mod Unique

@@ -14,15 +14,15 @@ use Rattle.dimacs.proofs.sheet.read_sheet.Reads as read-sheet-reads
 
 returns : tie.Need-returns
 returns c =
-    co-out _ _ _ _ (co-too-long (c .before .before .args .text .now) (c .before .before .args .n) (c .before .before .args .x .now) (c .before .before .args .y .now) (c .if1 .taken))
+    co-out _ _ _ _ _ (co-too-long (c .before .before .args .text .now) (c .before .before .args .n) (c .before .before .args .x .now) (c .before .before .args .y .now) (c .if1 .taken))
 
 returns-2 : tie.Need-returns-2
 returns-2 c =
-    co-out _ _ _ _ (co-too-short (c .before .before .before .args .text .now) (c .before .before .before .args .n) (c .before .before .before .args .x .now) (c .before .before .before .args .y .now) (c .before .if1 .left) (not-true _ (c .if2 .taken)))
+    co-out _ _ _ _ _ (co-too-short (c .before .before .before .args .text .now) (c .before .before .before .args .n) (c .before .before .before .args .x .now) (c .before .before .before .args .y .now) (c .before .if1 .left) (not-true _ (c .if2 .taken)))
 
 returns-3 : tie.Need-returns-3
 returns-3 c =
-    co-out _ _ _ _ (co-beyond (c .before .before .before .before .args .text .now) (c .before .before .before .before .args .n) (c .before .before .before .before .args .x .now) (c .before .before .before .before .args .y .now) (c .before .before .if1 .left) (not-false _ (c .before .if2 .left)) (not-true _ (c .if3 .taken)))
+    co-out _ _ _ _ _ (co-beyond (c .before .before .before .before .args .text .now) (c .before .before .before .before .args .n) (c .before .before .before .before .args .x .now) (c .before .before .before .before .args .y .now) (c .before .before .if1 .left) (not-false _ (c .before .if2 .left)) (not-true _ (c .if3 .taken)))
 
 read-sheet-requires : tie.Need-read-sheet-requires
 read-sheet-requires c κs =
@@ -63,12 +63,12 @@ same-length-2 c = search needs
 
 returns-4 : tie.Need-returns-4
 returns-4 c =
-    co-in _ _ _ _ _ _ _ (co-text (c .before .before .before .before .before .before .before .before .before .before .before .before .before .before .args .text .now) (c .before .before .before .before .before .before .before .before .before .before .before .before .before .before .args .n) (c .before .before .before .before .before .before .before .before .before .before .before .before .before .before .args .x .now) (c .before .before .before .before .before .before .before .before .before .before .before .before .before .before .args .y .now) (c .before .before .before .before .before .before .before .before .before .before .before .before .if1 .left) (not-false _ (c .before .before .before .before .before .before .before .before .before .before .before .if2 .left)) (not-false _ (c .before .before .before .before .before .before .before .before .before .before .if3 .left)) ∙ fine-outcome _ _ _ (c .before .before .before .before .before .before .before .before .before .read-sheet .ensures) (c .before .before .before .before .before .before .before .enum-told .given .1))
+    co-in _ _ _ _ _ _ _ _ (co-text (c .before .before .before .before .before .before .before .before .before .before .before .before .before .before .args .text .now) (c .before .before .before .before .before .before .before .before .before .before .before .before .before .before .args .n) (c .before .before .before .before .before .before .before .before .before .before .before .before .before .before .args .x .now) (c .before .before .before .before .before .before .before .before .before .before .before .before .before .before .args .y .now) (c .before .before .before .before .before .before .before .before .before .before .before .before .if1 .left) (not-false _ (c .before .before .before .before .before .before .before .before .before .before .before .if2 .left)) (not-false _ (c .before .before .before .before .before .before .before .before .before .before .if3 .left)) ∙ fine-outcome _ _ _ (c .before .before .before .before .before .before .before .before .before .read-sheet .ensures) (c .before .before .before .before .before .before .before .enum-told .given .1))
     (c .before .before .before .before .put-integers .ensures) (c .before .put-integers2 .ensures)
 
 returns-5 : tie.Need-returns-5
 returns-5 c =
-    co-out _ _ _ _ (co-text (c .before .before .before .before .before .before .before .before .args .text .now) (c .before .before .before .before .before .before .before .before .args .n) (c .before .before .before .before .before .before .before .before .args .x .now) (c .before .before .before .before .before .before .before .before .args .y .now) (c .before .before .before .before .before .before .if1 .left) (not-false _ (c .before .before .before .before .before .if2 .left)) (not-false _ (c .before .before .before .before .if3 .left)) ∙ refused-outcome _ _ _ _ (c .before .before .before .read-sheet .ensures) (c .before .judged .given .1))
+    co-out _ _ _ _ _ (co-text (c .before .before .before .before .before .before .before .before .args .text .now) (c .before .before .before .before .before .before .before .before .args .n) (c .before .before .before .before .before .before .before .before .args .x .now) (c .before .before .before .before .before .before .before .before .args .y .now) (c .before .before .before .before .before .before .if1 .left) (not-false _ (c .before .before .before .before .before .if2 .left)) (not-false _ (c .before .before .before .before .if3 .left)) ∙ refused-outcome _ _ _ _ (c .before .before .before .read-sheet .ensures) (c .before .judged .given .1))
 
 pub read-co-spec : {M : Type 1} → statement M
 read-co-spec =
