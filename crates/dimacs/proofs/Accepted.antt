@@ -22,7 +22,7 @@ use Rattle.scan.specs.declared.form.Numbers.{Numbers}
 use Rattle.dimacs.specs.Gr.{grRules}
 use Rattle.dimacs.specs.Co.{coRules}
 use Rattle.dimacs.specs.Texts.{Outcome, read, refused, readText}
-use Rattle.dimacs.specs.Rows.{naturalOf, integerOf, row}
+use Rattle.dimacs.specs.Rows.{columnOf, axisOf, row}
 use Rattle.dimacs.specs.Reading.{readGr, grSays, readCo, coSays}
 use Rattle.dimacs.specs.Accepted.{GrLimits, CoLimits}
 use Rattle.dimacs.specs.declared.format.Format.the-variants.{Graph, Coordinates}
@@ -71,7 +71,7 @@ co-count n text p lines h e =
 -- ---- .gr
 
 gr-lines : (text : List ℕ) (p : Numbers) (lines : List Numbers) (a b c : List ℕ) → readText Graph text ≡ read p lines
-    → GrLimits (p .second) (p .third) (map (naturalOf First) lines ++ a) (map (naturalOf Second) lines ++ b) (map (naturalOf Third) lines ++ c)
+    → GrLimits (p .second) (p .third) (map (columnOf First) lines ++ a) (map (columnOf Second) lines ++ b) (map (columnOf Third) lines ++ c)
 unfolding grRules
 gr-lines text p lines a b c e =
     let s = sound Graph tt text p lines e in
@@ -82,11 +82,11 @@ gr-lines text p lines a b c e =
       some-node = i .low .second;
       nodes = i .high .second;
       arcs = i .high .third;
-      tail-least = λ k h. rw (front (naturalOf First) lines a k 0 (at k h)) (line k h .low .first);
-      tail-most = λ k h. rw (front (naturalOf First) lines a k 0 (at k h)) (line k h .high .first);
-      head-least = λ k h. rw (front (naturalOf Second) lines b k 0 (at k h)) (line k h .low .second);
-      head-most = λ k h. rw (front (naturalOf Second) lines b k 0 (at k h)) (line k h .high .second);
-      weight = λ k h. rw (front (naturalOf Third) lines c k 0 (at k h)) (line k h .high .third);
+      tail-least = λ k h. rw (front (columnOf First) lines a k 0 (at k h)) (line k h .low .first);
+      tail-most = λ k h. rw (front (columnOf First) lines a k 0 (at k h)) (line k h .high .first);
+      head-least = λ k h. rw (front (columnOf Second) lines b k 0 (at k h)) (line k h .low .second);
+      head-most = λ k h. rw (front (columnOf Second) lines b k 0 (at k h)) (line k h .high .second);
+      weight = λ k h. rw (front (columnOf Third) lines c k 0 (at k h)) (line k h .high .third);
     }
 
 -- what was accepted was read
@@ -96,12 +96,12 @@ gr-read text a b c p lines e = onward _ _ _ _ e .1
 
 -- the rows that `read_gr` leaves after it said n and m
 pub gr-limits : (text a b c : List ℕ) (n m : ℕ) → grSays (readGr text a b c) ≡ accepted (n ∷ m ∷ [])
-    → GrLimits n m (row (naturalOf First) (readGr text a b c) a) (row (naturalOf Second) (readGr text a b c) b) (row (naturalOf Third) (readGr text a b c) c)
+    → GrLimits n m (row (columnOf First) (readGr text a b c) a) (row (columnOf Second) (readGr text a b c) b) (row (columnOf Third) (readGr text a b c) c)
 unfolding grSays row
 gr-limits text a b c n m e = by-outcome (readGr text a b c) (gr-read text a b c) e
   where
     by-outcome : (o : Outcome) → ((p : Numbers) (lines : List Numbers) → o ≡ read p lines → readText Graph text ≡ read p lines) → grSays o ≡ accepted (n ∷ m ∷ [])
-        → GrLimits n m (row (naturalOf First) o a) (row (naturalOf Second) o b) (row (naturalOf Third) o c)
+        → GrLimits n m (row (columnOf First) o a) (row (columnOf Second) o b) (row (columnOf Third) o c)
     by-outcome (read p lines) from d =
         let en : p .second ≡ n = ap (λ (r : Reply). getD (r .values) 0 0) d in
         let em : p .third ≡ m = ap (λ (r : Reply). getD (r .values) 1 0) d in
@@ -114,7 +114,7 @@ shown : {a b : ℤ} → leZ a b ≡ true → a ≤ℤ b
 shown {a} {b} e = leZ-yes (rw e tt)
 
 co-lines : (n : ℕ) → n ≤ 512 → (text : List ℕ) (p : Numbers) (lines : List Numbers) (a b : List ℤ) → readText (Coordinates n) text ≡ read p lines
-    → CoLimits n (map (integerOf X) lines ++ a) (map (integerOf Y) lines ++ b)
+    → CoLimits n (map (axisOf X) lines ++ a) (map (axisOf Y) lines ++ b)
 unfolding coRules
 co-lines n ok text p lines a b e =
     let s = sound (Coordinates n) ok text p lines e in
@@ -122,10 +122,10 @@ co-lines n ok text p lines a b e =
     let at : (k : ℕ) → k < n → k < length lines = λ k h. omega (arith, s .long) in
     let line : (k : ℕ) → k < n → Inside (coRules n .entries) (getD lines k none) = λ k h. inside (coRules n .entries) (getD lines k none) (s .entry k (omega arith) .inside) in
     record {
-      x-least = λ k h. rw (front (integerOf X) lines a k (pos 0) (at k h)) (shown (line k h .low .x));
-      x-most = λ k h. rw (front (integerOf X) lines a k (pos 0) (at k h)) (shown (line k h .high .x));
-      y-least = λ k h. rw (front (integerOf Y) lines b k (pos 0) (at k h)) (shown (line k h .low .y));
-      y-most = λ k h. rw (front (integerOf Y) lines b k (pos 0) (at k h)) (shown (line k h .high .y));
+      x-least = λ k h. rw (front (axisOf X) lines a k (pos 0) (at k h)) (shown (line k h .low .x));
+      x-most = λ k h. rw (front (axisOf X) lines a k (pos 0) (at k h)) (shown (line k h .high .x));
+      y-least = λ k h. rw (front (axisOf Y) lines b k (pos 0) (at k h)) (shown (line k h .low .y));
+      y-most = λ k h. rw (front (axisOf Y) lines b k (pos 0) (at k h)) (shown (line k h .high .y));
     }
 
 co-read : (text : List ℕ) (n : ℕ) (a b : List ℤ) (p : Numbers) (lines : List Numbers) → readCo text n a b ≡ read p lines
@@ -143,13 +143,23 @@ co-read text n a b p lines e =
 
 -- the rows that `read_co` leaves after it accepted
 pub co-limits : (text : List ℕ) (n : ℕ) (a b : List ℤ) → coSays (readCo text n a b) ≡ accepted []
-    → CoLimits n (row (integerOf X) (readCo text n a b) a) (row (integerOf Y) (readCo text n a b) b)
+    → CoLimits n (row (axisOf X) (readCo text n a b) a) (row (axisOf Y) (readCo text n a b) b)
 unfolding coSays row
 co-limits text n a b e = by-outcome (readCo text n a b) (co-read text n a b) e
   where
     by-outcome : (o : Outcome) → ((p : Numbers) (lines : List Numbers) → o ≡ read p lines → (n ≤ 512) × (readText (Coordinates n) text ≡ read p lines)) → coSays o ≡ accepted []
-        → CoLimits n (row (integerOf X) o a) (row (integerOf Y) o b)
+        → CoLimits n (row (axisOf X) o a) (row (axisOf Y) o b)
     by-outcome (read p lines) from d =
         let f = from p lines refl in
         co-lines n (f .0) text p lines (drop (p .third) a) (drop (p .third) b) (f .1)
     by-outcome (refused r) from d = absurd (not-accepted r [] d)
+
+-- each node has its line: at a node's place stands the line that names it
+pub co-nodes : (text : List ℕ) (n : ℕ) (a b : List ℤ) (p : Numbers) (lines : List Numbers) → readCo text n a b ≡ read p lines
+    → (length lines ≡ n) × ((i : ℕ) → i < n → getD lines i none .third ≡ i + 1)
+unfolding coRules
+co-nodes text n a b p lines e =
+    let f = co-read text n a b p lines e in
+    let s = sound (Coordinates n) (f .0) text p lines (f .1) in
+    let all : p .third ≡ n = co-count n text p lines (f .0) (f .1) in
+    (s .long ∙ all, λ i h. s .entry i (omega arith) .node refl)

@@ -6,3 +6,4 @@ mod Replies
 mod RowLaws
 mod Sound
 pub mod Unique
+pub mod Worked

@@ -13,7 +13,7 @@ use Rattle.rules.specs.declared.Judged.{Judged}
 use Rattle.rules.specs.declared.Judged.the-variants.{Fine, Refused}
 use Rattle.scan.specs.declared.form.Numbers.{Numbers}
 use Rattle.dimacs.specs.Texts.{Outcome, read, refused, onJudged, readText}
-use Rattle.dimacs.specs.Rows.{naturalOf, integerOf, row}
+use Rattle.dimacs.specs.Rows.{columnOf, axisOf, row}
 use Rattle.dimacs.specs.Reading.{readGr, grSays, readCo, coSays}
 use Rattle.dimacs.specs.Promise.{GrPromise, CoPromise}
 use Rattle.dimacs.specs.declared.format.Format.the-variants.{Graph, Coordinates}
@@ -55,8 +55,8 @@ module _ (text tails heads weights : List ℕ) where
   gr-out r e = record { reply = rw e; tails-left = rw e; heads-left = rw e; weights-left = rw e }
 
   pub gr-in : (p : Numbers) (lines : List Numbers) (a b c : List ℕ) → readGr text tails heads weights ≡ read p lines
-      → a ≡ map (naturalOf First) lines ++ drop (p .third) tails → b ≡ map (naturalOf Second) lines ++ drop (p .third) heads
-      → c ≡ map (naturalOf Third) lines ++ drop (p .third) weights → GrPromise text tails heads weights (GrRead (p .second) (p .third)) a b c
+      → a ≡ map (columnOf First) lines ++ drop (p .third) tails → b ≡ map (columnOf Second) lines ++ drop (p .third) heads
+      → c ≡ map (columnOf Third) lines ++ drop (p .third) weights → GrPromise text tails heads weights (GrRead (p .second) (p .third)) a b c
   unfolding grSays row
   gr-in p lines a b c e f g h = record { reply = rw e; tails-left = rw e f; heads-left = rw e g; weights-left = rw e h }
 
@@ -87,7 +87,7 @@ module _ (text : List ℕ) (n : ℕ) (x y : List ℤ) where
   co-out r e = record { reply = rw e; x-left = rw e; y-left = rw e }
 
   pub co-in : (p : Numbers) (lines : List Numbers) (a b : List ℤ) → readCo text n x y ≡ read p lines
-      → a ≡ map (integerOf X) lines ++ drop (p .third) x → b ≡ map (integerOf Y) lines ++ drop (p .third) y → CoPromise text n x y CoRead a b
+      → a ≡ map (axisOf X) lines ++ drop (p .third) x → b ≡ map (axisOf Y) lines ++ drop (p .third) y → CoPromise text n x y CoRead a b
   unfolding coSays row
   co-in p lines a b e f g = record { reply = rw e; x-left = rw e f; y-left = rw e g }
 

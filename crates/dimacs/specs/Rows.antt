@@ -10,14 +10,14 @@ use Rattle.dimacs.specs.declared.rows.Column.the-variants.{First, Second
 use Rattle.dimacs.specs.declared.rows.Axis.{Axis}
 use Rattle.dimacs.specs.declared.rows.Axis.the-variants.{X, Y}
 
-abbrev pub naturalOf : Column → Numbers → ℕ
-naturalOf First ns = ns .first
-naturalOf Second ns = ns .second
-naturalOf Third ns = ns .third
+abbrev pub columnOf : Column → Numbers → ℕ
+columnOf First ns = ns .first
+columnOf Second ns = ns .second
+columnOf Third ns = ns .third
 
-abbrev pub integerOf : Axis → Numbers → ℤ
-integerOf X ns = ns .x
-integerOf Y ns = ns .y
+abbrev pub axisOf : Axis → Numbers → ℤ
+axisOf X ns = ns .x
+axisOf Y ns = ns .y
 
 -- a row after reading: a number of each data line, then the rest as it was; a refused text leaves it alone
 unfoldable pub row : {A : Type 0} → (Numbers → A) → Outcome → List A → List A

@@ -4,7 +4,7 @@ ghost use mathlib.Core.Path.{_≡_};
 ghost use mathlib.Core.List.{_++_, map};
 ghost use Prim.Native.Nat.{_≤_};
 ghost use lib.ListN.{length, take, drop};
-ghost use Rattle.dimacs.specs.Rows.{naturalOf, integerOf};
+ghost use Rattle.dimacs.specs.Rows.{columnOf, axisOf};
 
 // Which number of a line.
 pub enum Column {
@@ -19,7 +19,7 @@ pub enum Axis {
 }
 
 fn natural(ns: Numbers, column: Column) -> u32
-    ensures { λ r. ⌜ r ≡ naturalOf column ns ⌝ }
+    ensures { λ r. ⌜ r ≡ columnOf column ns ⌝ }
 {
     match column {
         Column::First => ns.first,
@@ -29,7 +29,7 @@ fn natural(ns: Numbers, column: Column) -> u32
 }
 
 fn integer(ns: Numbers, axis: Axis) -> i32
-    ensures { λ r. ⌜ r ≡ integerOf axis ns ⌝ }
+    ensures { λ r. ⌜ r ≡ axisOf axis ns ⌝ }
 {
     match axis {
         Axis::X => ns.x,
@@ -40,7 +40,7 @@ fn integer(ns: Numbers, axis: Axis) -> i32
 // One number of each of the first m lines goes to the front of the row; the rest of it stays.
 pub fn put_naturals(lines: [Numbers; 2048], column: Column, m: usize, row: &mut [u32])
     requires { ⌜ (m ≤ 2048) × (m ≤ length (now row)) ⌝ }
-    ensures { λ _. ⌜ now (row .exit) ≡ map (naturalOf column) (take m lines) ++ drop m (now (row .entry)) ⌝ }
+    ensures { λ _. ⌜ now (row .exit) ≡ map (columnOf column) (take m lines) ++ drop m (now (row .entry)) ⌝ }
 {
     let mut i = 0;
     while i < m {
@@ -52,7 +52,7 @@ pub fn put_naturals(lines: [Numbers; 2048], column: Column, m: usize, row: &mut 
 
 pub fn put_integers(lines: [Numbers; 2048], axis: Axis, m: usize, row: &mut [i32])
     requires { ⌜ (m ≤ 2048) × (m ≤ length (now row)) ⌝ }
-    ensures { λ _. ⌜ now (row .exit) ≡ map (integerOf axis) (take m lines) ++ drop m (now (row .entry)) ⌝ }
+    ensures { λ _. ⌜ now (row .exit) ≡ map (axisOf axis) (take m lines) ++ drop m (now (row .entry)) ⌝ }
 {
     let mut i = 0;
     while i < m {

@@ -120,7 +120,11 @@ pub fn read_sheet(text: &[u8], format: Format) -> Sheet
 {
     let mut lines = [no_numbers(); 2048];
     let mut taken = [false; 2048];
-    let mut head = Head { seen: false, problem: no_numbers(), count: 0 };
+    let mut head = Head {
+        seen: false,
+        problem: no_numbers(),
+        count: 0,
+    };
     let mut at: usize = 0;
     let mut line: u32 = 1;
     while at < text.len() {
@@ -133,19 +137,31 @@ pub fn read_sheet(text: &[u8], format: Format) -> Sheet
         let rules = rules_for(format, problem);
         let judged = judge(rules, head, &taken, l, line);
         let Judged::Fine = judged else {
-            return Sheet { judged, problem, lines };
+            return Sheet {
+                judged,
+                problem,
+                lines,
+            };
         };
         let next = at + e + 1;
         let below = line + 1;
         match l {
             Line::Problem(ns) => {
-                head = Head { seen: true, problem: ns, count };
+                head = Head {
+                    seen: true,
+                    problem: ns,
+                    count,
+                };
             }
             Line::Data(ns) => {
                 let i = place_of(rules, head, ns);
                 taken[i] = true;
                 lines[i] = ns;
-                head = Head { seen, problem, count: count + 1 };
+                head = Head {
+                    seen,
+                    problem,
+                    count: count + 1,
+                };
             }
             Line::Comment => {}
             Line::Faulty(_) => {}
@@ -154,5 +170,9 @@ pub fn read_sheet(text: &[u8], format: Format) -> Sheet
         line = below;
     }
     let problem = head.problem;
-    Sheet { judged: judge_end(head, line), problem, lines }
+    Sheet {
+        judged: judge_end(head, line),
+        problem,
+        lines,
+    }
 }

@@ -4,7 +4,7 @@ use native.Mathlib.Omega.{arith}
 use lib.ListN.{length}
 use borrow.Author.Needs.{needs, sfits-of}
 use mir.Facts.{toZ-ofZ}
-use Rattle.dimacs.specs.Rows.{integerOf}
+use Rattle.dimacs.specs.Rows.{axisOf}
 use Rattle.dimacs.proofs.RowLaws.{Filled, fill-more, fill-end}
 use Rattle.dimacs.proofs.rows.put_integers.Statement.{statement}
 use Rattle.dimacs.proofs.rows.put_integers.Tie as tie
@@ -13,7 +13,7 @@ use Rattle.dimacs.proofs.rows.put_integers.Lts as lts
 use Rattle.dimacs.proofs.rows.integer.Reads as integer-reads
 
 abbrev Inv-loop : tie.InvT-loop
-Inv-loop axis m row₀ lines i₀ row i = Filled (integerOf axis) lines m row₀ row i
+Inv-loop axis m row₀ lines i₀ row i = Filled (axisOf axis) lines m row₀ row i
 
 abbrev μ-loop : tie.MeasureT-loop
 μ-loop axis m row₀ lines i₀ row i = m - i
