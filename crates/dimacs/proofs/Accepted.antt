@@ -17,8 +17,8 @@ use Rattle.rules.specs.declared.Refusal.{Refusal}
 use Rattle.rules.specs.declared.Refusal.the-variants.{TextTooLong, RowTooShort, NoForm, OutOfOrder, BeyondLimits, CountsDisagree, NodeAgain, BadArc, BadCoordinate, BadBox, NotInNetwork, NoWalk, BoxMisses}
 use Rattle.rules.specs.declared.Judged.{Judged}
 use Rattle.rules.specs.declared.Judged.the-variants.{Fine}
-use Rattle.scan.specs.Forms.{none}
-use Rattle.scan.specs.declared.form.Numbers.{Numbers}
+use Rattle.scan.specs.Fields.{none}
+use Rattle.scan.specs.declared.fields.Numbers.{Numbers}
 use Rattle.dimacs.specs.Gr.{grRules}
 use Rattle.dimacs.specs.Co.{coRules}
 use Rattle.dimacs.specs.Texts.{Outcome, read, refused, readText}

@@ -12,8 +12,9 @@ use Rattle.rules.specs.declared.Refusal.the-variants.{NoForm, BeyondLimits, Cou
 use Rattle.scan.specs.Ascii.{bytes}
 use Rattle.scan.specs.Pieces.{opening, pieces, firstAt, sameBytes}
 use Rattle.scan.specs.Numbers.{valueFrom, naturalOf, plain, negated, integerOf}
-use Rattle.scan.specs.Forms.{takenNatural, takenInteger, taken, onField, matched, lineOf}
-use Rattle.scan.specs.declared.form.Numbers.{Numbers}
+use Rattle.scan.specs.Fields.{takenNatural, takenInteger, taken, onField, matched}
+use Rattle.scan.specs.Line.{lineOf}
+use Rattle.scan.specs.declared.fields.Numbers.{Numbers}
 use Rattle.dimacs.specs.Rules.{naturals, within}
 use Rattle.dimacs.specs.Gr.{grLine, grRules}
 use Rattle.dimacs.specs.Co.{coLine, coRules}

@@ -8,9 +8,9 @@ use Rattle.rules.specs.Judging.{inTurn, passes}
 use Rattle.rules.specs.declared.Refusal.the-variants.{NoForm, OutOfOrder, BeyondLimits, CountsDisagree, NodeAgain}
 use Rattle.rules.specs.declared.Judged.{Judged}
 use Rattle.rules.specs.declared.Judged.the-variants.{Fine, Refused}
-use Rattle.scan.specs.declared.form.Numbers.{Numbers}
-use Rattle.scan.specs.declared.form.Line.{Line}
-use Rattle.scan.specs.declared.form.Line.the-variants.{Comment, Problem, Data, Faulty}
+use Rattle.scan.specs.declared.fields.Numbers.{Numbers}
+use Rattle.scan.specs.declared.line.Line.{Line}
+use Rattle.scan.specs.declared.line.Line.the-variants.{Comment, Problem, Data, Faulty}
 use Rattle.dimacs.specs.Rules.{within}
 use Rattle.dimacs.specs.declared.format.Rules.{Rules}
 use Rattle.dimacs.specs.declared.sheet.Head.{Head}

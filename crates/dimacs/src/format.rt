@@ -1,7 +1,7 @@
 // What each format says of its lines: their forms, and the limits of the numbers on them.
-use scan::form::Line;
-use scan::form::Numbers;
-use scan::form::read_line;
+use scan::fields::Numbers;
+use scan::line::Line;
+use scan::line::read_line;
 ghost use mathlib.Core.Path.{_≡_};
 ghost use Rattle.scan.specs.Held.{heldLine};
 ghost use Rattle.dimacs.specs.Rules.{naturals, noneAbove, within};

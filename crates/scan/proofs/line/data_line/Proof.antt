@@ -1,10 +1,8 @@
 use mathlib.Core.Path.{sym, ap}
-use Rattle.scan.specs.Forms.{dataLine}
+use Rattle.scan.specs.Line.{dataLine}
 use borrow.Author.Needs.{needs}
-use Rattle.scan.proofs.form.data_line.Statement.{statement}
-use Rattle.scan.proofs.form.data_line.Tie as tie
-use Rattle.scan.proofs.form.data_line.Reads as reads
-use Rattle.scan.proofs.form.data_line.Lts as lts
+use Rattle.scan.proofs.line.data_line.Statement.{statement}
+use Rattle.scan.proofs.line.data_line.Tie as tie
 
 enum-known-f : tie.Need-enum-known-f
 enum-known-f c = search needs

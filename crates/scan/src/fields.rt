@@ -1,4 +1,4 @@
-// The forms of a line, written as the paper writes them: `p sp N M`, `v ID X Y`.
+// The fields of a line, read from left to right where its form has fields; a form is written as in the paper: `p sp N M`, `v ID X Y`.
 use crate::numbers::Integer;
 use crate::numbers::Natural;
 use crate::numbers::read_integer;
@@ -9,10 +9,9 @@ use crate::pieces::front;
 use crate::pieces::rest;
 use crate::pieces::same_bytes;
 ghost use mathlib.Core.Path.{_≡_};
-ghost use lib.IntN.{pos};
 ghost use Rattle.scan.specs.Pieces.{fieldsOf};
-ghost use Rattle.scan.specs.Forms.{none, oneNatural, oneInteger, taken, matched, dataLine, lineOf};
-ghost use Rattle.scan.specs.Held.{heldField, heldFields, heldLine};
+ghost use Rattle.scan.specs.Fields.{none, oneNatural, oneInteger, taken, matched};
+ghost use Rattle.scan.specs.Held.{heldField, heldFields};
 
 // The numbers of a line, the last three without sign and the last two that may have a minus; 0 where there are fewer.
 pub struct Numbers {
@@ -35,14 +34,6 @@ pub enum Kind {
 pub struct Fault {
     pub kind: Kind,
     pub column: usize,
-}
-
-// What a line is.
-pub enum Line {
-    Comment,
-    Problem(Numbers),
-    Data(Numbers),
-    Faulty(Fault),
 }
 
 // The numbers with one more, where a field has its spelling.
@@ -119,7 +110,7 @@ fn take_field(form: &[u8], s: &[u8], ns: Numbers) -> Field
 }
 
 // The fields of s, from left to right, where the form has those of `form`.
-fn read_fields(form: &[u8], s: &[u8]) -> Fields
+pub fn read_fields(form: &[u8], s: &[u8]) -> Fields
     ensures { λ r. ⌜ heldFields r ≡ heldFields (matched (fieldsOf (now (form .entry))) 1 (fieldsOf (now (s .entry))) none) ⌝ }
 {
     let mut ns = no_numbers();
@@ -156,44 +147,4 @@ fn read_fields(form: &[u8], s: &[u8]) -> Fields
         i = i + d + 1;
         j = j + e + 1;
     }
-}
-
-// A data line of these fields; a fault is handed on as it came.
-fn data_line(f: Fields) -> Line
-    ensures { λ r. ⌜ r ≡ dataLine f ⌝ }
-{
-    match f {
-        Fields::Read(ns) => Line::Data(ns),
-        Fields::Unread(fault) => Line::Faulty(fault),
-    }
-}
-
-// A line of a format whose problem line has the form `problem` and whose data lines have the form `data`.
-pub fn read_line(s: &[u8], problem: &[u8], data: &[u8]) -> Line
-    ensures { λ r. ⌜ heldLine r ≡ heldLine (lineOf (now (problem .entry)) (now («data» .entry)) (now (s .entry))) ⌝ }
-{
-    if s.len() == 0 {
-        return Line::Faulty(Fault {
-            kind: Kind::EmptyLine,
-            column: 1,
-        });
-    }
-    let letter = front(s, first_at(s, b' '));
-    if same_bytes(letter, b"c") {
-        return Line::Comment;
-    }
-    if same_bytes(letter, front(problem, first_at(problem, b' '))) {
-        let f = read_fields(problem, s);
-        let Fields::Read(ns) = f else {
-            return data_line(f);
-        };
-        return Line::Problem(ns);
-    }
-    if same_bytes(letter, front(data, first_at(data, b' '))) {
-        return data_line(read_fields(data, s));
-    }
-    Line::Faulty(Fault {
-        kind: Kind::NoLetter,
-        column: 1,
-    })
 }

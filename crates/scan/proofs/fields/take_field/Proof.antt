@@ -2,20 +2,12 @@ use mir.Syntax.{w32}
 use mir.Val.{toZ, ofZ}
 use mathlib.Core.Path.{_≡_, sym, ap, _∙_}
 use mathlib.Core.Bool.{Bool, true, false}
-use Rattle.scan.specs.Forms.{takenInteger, takenNatural, oneInteger, oneNatural}
-use Rattle.scan.specs.declared.form.Field.the-variants.{Taken}
-use Rattle.scan.proofs.FormLaws.{field-integer, field-natural, field-word}
+use Rattle.scan.specs.Fields.{takenInteger, takenNatural, oneInteger, oneNatural}
+use Rattle.scan.specs.declared.fields.Field.the-variants.{Taken}
+use Rattle.scan.proofs.FieldLaws.{field-integer, field-natural, field-word}
 use borrow.Author.Needs.{needs}
-use Rattle.scan.proofs.form.take_field.Statement.{statement}
-use Rattle.scan.proofs.form.take_field.Tie as tie
-use Rattle.scan.proofs.form.take_field.Reads as reads
-use Rattle.scan.proofs.form.take_field.Lts as lts
-use Rattle.scan.proofs.form.add_integer.Reads as add-integer-reads
-use Rattle.scan.proofs.form.add_natural.Reads as add-natural-reads
-use Rattle.scan.proofs.numbers.read_integer.Reads as read-integer-reads
-use Rattle.scan.proofs.numbers.read_natural.Reads as read-natural-reads
-use Rattle.scan.proofs.pieces.first_byte.Reads as first-byte-reads
-use Rattle.scan.proofs.pieces.same_bytes.Reads as same-bytes-reads
+use Rattle.scan.proofs.fields.take_field.Statement.{statement}
+use Rattle.scan.proofs.fields.take_field.Tie as tie
 
 first-byte-requires : tie.Need-first-byte-requires
 first-byte-requires c κs = search needs

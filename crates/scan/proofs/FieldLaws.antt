@@ -1,4 +1,4 @@
--- Laws of the forms of a line, as the scanner reads them field by field. Assumes nothing.
+-- Laws of the fields of a line, as they are read from left to right. Assumes nothing.
 use mathlib.Core.Path.{_≡_, refl, sym, ap, _∙_}
 use mathlib.Core.Logic.{_⊎_, inl, inr, ⊎-elim}
 use mathlib.Core.List.{List, [], _∷_}
@@ -10,23 +10,21 @@ use lib.Dec.{eqb, leb, ltb}
 use lib.IntN.{ℤ, pos, negsuc}
 use lib.ListN.{length, getD, take, drop, length-drop}
 use lib.Seq.{drop-drop, length-take-le}
-use borrow.Author.Tests.{lt-ltb, le-ltb, le-leb, lt-leb, eq-eqb, ne-eqb}
-use Rattle.scan.specs.Pieces.{firstAt, firstField, sameBytes, fieldsOf}
+use borrow.Author.Tests.{lt-ltb, le-ltb, le-leb, lt-leb}
+use Rattle.scan.specs.Pieces.{firstAt, sameBytes, fieldsOf}
 use Rattle.scan.specs.Numbers.{naturalOf, integerOf}
-use Rattle.scan.specs.Forms.{none, oneNatural, oneInteger, takenNatural, takenInteger, taken, unread, onField, matched, problemLine, dataLine, letter-c, lineOf}
-use Rattle.scan.specs.Held.{held, heldZ, heldNatural, heldInteger, heldNumbers, heldField, heldFields, heldLine}
+use Rattle.scan.specs.Fields.{none, oneNatural, oneInteger, takenNatural, takenInteger, taken, unread, onField, matched}
+use Rattle.scan.specs.Held.{held, heldZ, heldNatural, heldInteger, heldNumbers, heldField, heldFields}
 use Rattle.scan.specs.declared.numbers.Natural.{Natural}
 use Rattle.scan.specs.declared.numbers.Natural.the-variants.{Number, NoNumber}
 use Rattle.scan.specs.declared.numbers.Integer.{Integer}
 use Rattle.scan.specs.declared.numbers.Integer.the-variants.{Whole, NoWhole}
-use Rattle.scan.specs.declared.form.Numbers.{Numbers}
-use Rattle.scan.specs.declared.form.Kind.the-variants.{EmptyLine, NoLetter, Misspelt, Missing, Extra}
-use Rattle.scan.specs.declared.form.Fault.{Fault}
-use Rattle.scan.specs.declared.form.Field.{Field}
-use Rattle.scan.specs.declared.form.Field.the-variants.{Taken, NotTaken}
-use Rattle.scan.specs.declared.form.Fields.{Fields}
-use Rattle.scan.specs.declared.form.Fields.the-variants.{Read, Unread}
-use Rattle.scan.specs.declared.form.Line.the-variants.{Comment, Problem, Data, Faulty}
+use Rattle.scan.specs.declared.fields.Numbers.{Numbers}
+use Rattle.scan.specs.declared.fields.Kind.the-variants.{Misspelt, Missing, Extra}
+use Rattle.scan.specs.declared.fields.Field.{Field}
+use Rattle.scan.specs.declared.fields.Field.the-variants.{Taken, NotTaken}
+use Rattle.scan.specs.declared.fields.Fields.{Fields}
+use Rattle.scan.specs.declared.fields.Fields.the-variants.{Read, Unread}
 use Rattle.scan.proofs.PieceLaws.{first-le, fields-cut, fields-one}
 
 -- ---- what is held stays held
@@ -131,16 +129,29 @@ pub record Matching (form s : List ℕ) (ns : Numbers) (i j : ℕ) : Type 0 wher
   pub line-in : j ≤ length s
   pub same : heldFields (matched (fieldsOf form) 1 (fieldsOf s) none) ≡ heldFields (matched (fieldsOf (drop i form)) (j + 1) (fieldsOf (drop j s)) ns)
 
-module _ (form s : List ℕ) (ns : Numbers) (i j : ℕ) (g : Matching form s ns i j) (p t : List ℕ) (d e : ℕ) (u v : List ℕ) (f : Field)
-    (ep : p ≡ drop i form) (et : t ≡ drop j s) (ed : d ≡ firstAt 32 p) (ee : e ≡ firstAt 32 t) (el : e ≤ length t) (eu : u ≡ take d p) (ev : v ≡ take e t) (ef : heldField f ≡ heldField (taken u v ns)) where
+-- what is known where a field f of the form and of the line is read: they end at d and e of what is left, p and t
+pub record Step (form s : List ℕ) (ns : Numbers) (i j : ℕ) (p t : List ℕ) (d e : ℕ) (f : Field) : Type 0 where
+  pub matching : Matching form s ns i j
+  pub form-rest : p ≡ drop i form
+  pub line-rest : t ≡ drop j s
+  pub form-end : d ≡ firstAt 32 p
+  pub line-end : e ≡ firstAt 32 t
+  pub in-line : e ≤ length t
+  pub word : List ℕ
+  pub form-field : word ≡ take d p
+  pub field : List ℕ
+  pub line-field : field ≡ take e t
+  pub same-field : heldField f ≡ heldField (taken word field ns)
+
+module _ (form s : List ℕ) (ns : Numbers) (i j : ℕ) (p t : List ℕ) (d e : ℕ) (f : Field) (g : Step form s ns i j p t d e f) where
   step : heldFields (matched (fieldsOf form) 1 (fieldsOf s) none)
       ≡ heldFields (onField f (λ more. matched (later p d) (j + 1 + (e + 1)) (later t e) more) (unread Misspelt (j + 1)))
   unfolding matched
   step =
-      let long : length (take e t) ≡ e = length-take-le e t el in
-      g .same
-      ∙ rw (← ep, ← et, fields-first p d ed, fields-first t e ee, ← eu, long, ← ev)
-      (on-alike (taken u v ns) f _ _ (sym ef) (alike-fields (later p d) (j + 1 + (e + 1)) (later t e)))
+      let long : length (take e t) ≡ e = length-take-le e t (g .in-line) in
+      g .matching .same
+      ∙ rw (← g .form-rest, ← g .line-rest, fields-first p d (g .form-end), fields-first t e (g .line-end), ← g .form-field, long, ← g .line-field)
+      (on-alike (taken (g .word) (g .field) ns) f _ _ (sym (g .same-field)) (alike-fields (later p d) (j + 1 + (e + 1)) (later t e)))
 
   pub field-bad : f ≡ NotTaken → heldFields (unread Misspelt (j + 1)) ≡ heldFields (matched (fieldsOf form) 1 (fieldsOf s) none)
   unfolding onField
@@ -170,64 +181,11 @@ module _ (form s : List ℕ) (ns : Numbers) (i j : ℕ) (g : Matching form s ns 
         let b : j + (e + 1) ≡ j + e + 1 = omega arith in
         let c : j + 1 + (e + 1) ≡ j + e + 1 + 1 = omega arith in
         record {
-          form-in = omega (arith, rw (ep, length-drop) at h);
-          line-in = omega (arith, rw (et, length-drop) at k);
-          same = step ∙ rw (q, lt-ltb _ _ h, lt-ltb _ _ k, ep, et, drop-drop (d + 1) i form, drop-drop (e + 1) j s, a, b, c);
+          form-in = omega (arith, rw (g .form-rest, length-drop) at h);
+          line-in = omega (arith, rw (g .line-rest, length-drop) at k);
+          same = step ∙ rw (q, lt-ltb _ _ h, lt-ltb _ _ k, g .form-rest, g .line-rest, drop-drop (d + 1) i form, drop-drop (e + 1) j s, a, b, c);
         }
 
 -- nothing is read yet
 pub matching-start : (form s : List ℕ) (ns : Numbers) → ns ≡ none → Matching form s ns 0 0
 matching-start form s ns e = record { form-in = omega arith; line-in = omega arith; same = rw e }
-
--- ---- a line
-
-alike-problem : (f g : Fields) → heldFields f ≡ heldFields g → heldLine (problemLine f) ≡ heldLine (problemLine g)
-unfolding heldFields heldLine
-alike-problem (Read a) (Read b) e = let n : heldNumbers a ≡ heldNumbers b = cc in ap Problem n
-alike-problem (Read a) (Unread b) e = absurd (let z : _≡_ {A = ℕ} 0 1 = cc in omega arith)
-alike-problem (Unread a) (Read b) e = absurd (let z : _≡_ {A = ℕ} 0 1 = cc in omega arith)
-alike-problem (Unread a) (Unread b) e = let n : a ≡ b = cc in ap Faulty n
-
-alike-data : (f g : Fields) → heldFields f ≡ heldFields g → heldLine (dataLine f) ≡ heldLine (dataLine g)
-unfolding heldFields heldLine
-alike-data (Read a) (Read b) e = let n : heldNumbers a ≡ heldNumbers b = cc in ap Data n
-alike-data (Read a) (Unread b) e = absurd (let z : _≡_ {A = ℕ} 0 1 = cc in omega arith)
-alike-data (Unread a) (Read b) e = absurd (let z : _≡_ {A = ℕ} 0 1 = cc in omega arith)
-alike-data (Unread a) (Unread b) e = let n : a ≡ b = cc in ap Faulty n
-
--- a fault is handed on as it came
-pub handed-on : (f : Fields) (x : Fault) → f ≡ Unread x → dataLine f ≡ problemLine f
-handed-on f x e = rw e
-
-pub line-empty : (problem rows s : List ℕ) → length s ≡ 0 → Faulty (record { kind = EmptyLine; column = 1 }) ≡ lineOf problem rows s
-unfolding lineOf
-line-empty problem rows s h = rw (eq-eqb (length s) 0 h)
-
--- the first field is l, and not empty with nothing after it
-module _ (problem rows s l : List ℕ) (e : ℕ) (some : length s ≡ 0 → ⊥) (ee : e ≡ firstAt 32 s) (el : l ≡ take e s) where
-  letter : l ≡ firstField s
-  letter = el ∙ ap (λ (n : ℕ). take n s) ee
-
-  pub line-comment : sameBytes l letter-c ≡ true → Comment ≡ lineOf problem rows s
-  unfolding lineOf
-  line-comment t = rw (ne-eqb (length s) 0 some, ← letter, t)
-
-  module _ (not-c : sameBytes l letter-c ≡ false) (p : List ℕ) (d : ℕ) (ed : d ≡ firstAt 32 problem) (ep : p ≡ take d problem) where
-    letter-p : p ≡ firstField problem
-    letter-p = ep ∙ ap (λ (n : ℕ). take n problem) ed
-
-    pub line-problem : (f : Fields) → sameBytes l p ≡ true → heldFields f ≡ heldFields (matched (fieldsOf problem) 1 (fieldsOf s) none) → heldLine (problemLine f) ≡ heldLine (lineOf problem rows s)
-    unfolding lineOf
-    line-problem f t h = rw (ne-eqb (length s) 0 some, ← letter, ← letter-p, not-c, t) (alike-problem f _ h)
-
-    module _ (not-p : sameBytes l p ≡ false) (q : List ℕ) (k : ℕ) (ek : k ≡ firstAt 32 rows) (eq : q ≡ take k rows) where
-      letter-q : q ≡ firstField rows
-      letter-q = eq ∙ ap (λ (n : ℕ). take n rows) ek
-
-      pub line-data : (f : Fields) → sameBytes l q ≡ true → heldFields f ≡ heldFields (matched (fieldsOf rows) 1 (fieldsOf s) none) → heldLine (dataLine f) ≡ heldLine (lineOf problem rows s)
-      unfolding lineOf
-      line-data f t h = rw (ne-eqb (length s) 0 some, ← letter, ← letter-p, ← letter-q, not-c, not-p, t) (alike-data f _ h)
-
-      pub line-none : sameBytes l q ≡ false → Faulty (record { kind = NoLetter; column = 1 }) ≡ lineOf problem rows s
-      unfolding lineOf
-      line-none t = rw (ne-eqb (length s) 0 some, ← letter, ← letter-p, ← letter-q, not-c, not-p, t)

@@ -1,18 +1,11 @@
 use mathlib.Core.Path.{_≡_, sym, ap, _∙_}
-use Rattle.scan.specs.Forms.{problemLine}
+use Rattle.scan.specs.Line.{problemLine}
 use Rattle.scan.specs.Held.{heldLine}
-use Rattle.scan.specs.declared.form.Fields.{Fields}
-use Rattle.scan.proofs.FormLaws.{handed-on, line-empty, line-comment, line-problem, line-data, line-none}
+use Rattle.scan.specs.declared.fields.Fields.{Fields}
+use Rattle.scan.proofs.LineLaws.{handed-on, line-empty, line-comment, line-problem, line-data, line-none}
 use borrow.Author.Needs.{needs}
-use Rattle.scan.proofs.form.read_line.Statement.{statement}
-use Rattle.scan.proofs.form.read_line.Tie as tie
-use Rattle.scan.proofs.form.read_line.Reads as reads
-use Rattle.scan.proofs.form.read_line.Lts as lts
-use Rattle.scan.proofs.form.data_line.Reads as data-line-reads
-use Rattle.scan.proofs.form.read_fields.Reads as read-fields-reads
-use Rattle.scan.proofs.pieces.first_at.Reads as first-at-reads
-use Rattle.scan.proofs.pieces.front.Reads as front-reads
-use Rattle.scan.proofs.pieces.same_bytes.Reads as same-bytes-reads
+use Rattle.scan.proofs.line.read_line.Statement.{statement}
+use Rattle.scan.proofs.line.read_line.Tie as tie
 
 returns : tie.Need-returns
 returns c =

@@ -1,27 +1,24 @@
--- The forms of a line, read field by field from left to right; the first fault decides. Assumes nothing: these are definitions.
+-- The fields of a line, read from left to right where its form has fields; the first fault decides. Assumes nothing: these are definitions.
 use Prim.Native.Nat.{ℕ, _+_, _-_}
 use Prim.Native.Char.{code}
 use mathlib.Core.List.{List, [], _∷_}
 use mathlib.Core.Bool.{Bool, true, false, cond, _&&_}
-use lib.Dec.{eqb, leb}
+use lib.Dec.{leb}
 use lib.IntN.{ℤ, pos}
 use lib.ListN.{length, getD}
-use Rattle.scan.specs.Pieces.{fieldsOf, firstField, sameBytes}
+use Rattle.scan.specs.Pieces.{sameBytes}
 use Rattle.scan.specs.Numbers.{naturalOf, integerOf}
 use Rattle.scan.specs.declared.numbers.Natural.{Natural}
 use Rattle.scan.specs.declared.numbers.Natural.the-variants.{Number, NoNumber}
 use Rattle.scan.specs.declared.numbers.Integer.{Integer}
 use Rattle.scan.specs.declared.numbers.Integer.the-variants.{Whole, NoWhole}
-use Rattle.scan.specs.declared.form.Numbers.{Numbers}
-use Rattle.scan.specs.declared.form.Kind.{Kind}
-use Rattle.scan.specs.declared.form.Kind.the-variants.{EmptyLine, NoLetter, Misspelt, Missing, Extra}
-use Rattle.scan.specs.declared.form.Fault.{Fault}
-use Rattle.scan.specs.declared.form.Field.{Field}
-use Rattle.scan.specs.declared.form.Field.the-variants.{Taken, NotTaken}
-use Rattle.scan.specs.declared.form.Fields.{Fields}
-use Rattle.scan.specs.declared.form.Fields.the-variants.{Read, Unread}
-use Rattle.scan.specs.declared.form.Line.{Line}
-use Rattle.scan.specs.declared.form.Line.the-variants.{Comment, Problem, Data, Faulty}
+use Rattle.scan.specs.declared.fields.Numbers.{Numbers}
+use Rattle.scan.specs.declared.fields.Kind.{Kind}
+use Rattle.scan.specs.declared.fields.Kind.the-variants.{Misspelt, Missing, Extra}
+use Rattle.scan.specs.declared.fields.Field.{Field}
+use Rattle.scan.specs.declared.fields.Field.the-variants.{Taken, NotTaken}
+use Rattle.scan.specs.declared.fields.Fields.{Fields}
+use Rattle.scan.specs.declared.fields.Fields.the-variants.{Read, Unread}
 
 -- ---- the numbers of a line
 
@@ -69,25 +66,3 @@ matched [] c [] ns = Read ns
 matched [] c (f ∷ fs) ns = unread Extra c
 matched (p ∷ ps) c [] ns = unread Missing (c - 1)
 matched (p ∷ ps) c (f ∷ fs) ns = onField (taken p f ns) (λ more. matched ps (c + (length f + 1)) fs more) (unread Misspelt c)
-
--- ---- a line
-
-abbrev pub problemLine : Fields → Line
-problemLine (Read ns) = Problem ns
-problemLine (Unread f) = Faulty f
-
-abbrev pub dataLine : Fields → Line
-dataLine (Read ns) = Data ns
-dataLine (Unread f) = Faulty f
-
-abbrev pub letter-c : List ℕ
-letter-c = code "c" ∷ []
-
--- the line s of a format whose problem line has the form `problem` and whose data lines have the form `rows`
-unfoldable pub lineOf : List ℕ → List ℕ → List ℕ → Line
-lineOf problem rows s =
-    cond (eqb (length s) 0) (Faulty (record { kind = EmptyLine; column = 1 }))
-    (cond (sameBytes (firstField s) letter-c) Comment
-    (cond (sameBytes (firstField s) (firstField problem)) (problemLine (matched (fieldsOf problem) 1 (fieldsOf s) none))
-    (cond (sameBytes (firstField s) (firstField rows)) (dataLine (matched (fieldsOf rows) 1 (fieldsOf s) none))
-    (Faulty (record { kind = NoLetter; column = 1 })))))
