@@ -27,7 +27,7 @@ use Rattle.dimacs.specs.declared.format.Limits.{Limits}
 use Rattle.dimacs.specs.declared.format.Rules.{Rules}
 use Rattle.dimacs.specs.declared.format.Format.{Format}
 use Rattle.dimacs.specs.declared.format.Format.the-variants.{Graph, Coordinates}
-use Rattle.dimacs.specs.declared.sheet.Head.{Head}
+use Rattle.dimacs.specs.declared.judge.Head.{Head}
 
 clash : false ≡ true → ⊥
 clash e = let z : _≡_ {A = ℕ} 0 1 = ap (λ (b : Bool). cond b 1 0) e in omega arith

@@ -13,7 +13,7 @@ use Rattle.scan.specs.declared.line.Line.{Line}
 use Rattle.scan.specs.declared.line.Line.the-variants.{Comment, Problem, Data, Faulty}
 use Rattle.dimacs.specs.Rules.{within}
 use Rattle.dimacs.specs.declared.format.Rules.{Rules}
-use Rattle.dimacs.specs.declared.sheet.Head.{Head}
+use Rattle.dimacs.specs.declared.judge.Head.{Head}
 
 -- a problem line, at line k: a second one is 4, limits are 5, counts that disagree 6
 unfoldable pub problemJudged : Rules → Head → ℕ → Numbers → Judged

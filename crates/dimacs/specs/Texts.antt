@@ -16,7 +16,7 @@ use Rattle.dimacs.specs.Formats.{formatLine, rulesOf}
 use Rattle.dimacs.specs.Judgement.{judged, ended}
 use Rattle.dimacs.specs.declared.format.Format.{Format}
 use Rattle.dimacs.specs.declared.format.Rules.{Rules}
-use Rattle.dimacs.specs.declared.sheet.Head.{Head}
+use Rattle.dimacs.specs.declared.judge.Head.{Head}
 use Rattle.dimacs.specs.declared.sheet.Sheet.{Sheet}
 
 -- what reading gives: the numbers of the problem line and of the data lines, or a refusal

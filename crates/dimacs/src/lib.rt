@@ -1,5 +1,6 @@
 // The text formats of the 9th DIMACS Implementation Challenge: a text becomes rows, or gets its numbered refusal.
 pub mod format;
+pub mod judge;
 pub mod rows;
 pub mod sheet;
 

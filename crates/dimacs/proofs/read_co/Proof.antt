@@ -7,10 +7,6 @@ use Rattle.dimacs.proofs.Replies.{fine-outcome, refused-outcome, co-too
 use borrow.Author.Needs.{needs}
 use Rattle.dimacs.proofs.read_co.Statement.{statement}
 use Rattle.dimacs.proofs.read_co.Tie as tie
-use Rattle.dimacs.proofs.read_co.Reads as reads
-use Rattle.dimacs.proofs.read_co.Lts as lts
-use Rattle.dimacs.proofs.rows.put_integers.Reads as put-integers-reads
-use Rattle.dimacs.proofs.sheet.read_sheet.Reads as read-sheet-reads
 
 returns : tie.Need-returns
 returns c =

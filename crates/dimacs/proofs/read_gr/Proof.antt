@@ -6,10 +6,6 @@ use Rattle.dimacs.proofs.Replies.{fine-outcome, refused-outcome, gr-too
 use borrow.Author.Needs.{needs}
 use Rattle.dimacs.proofs.read_gr.Statement.{statement}
 use Rattle.dimacs.proofs.read_gr.Tie as tie
-use Rattle.dimacs.proofs.read_gr.Reads as reads
-use Rattle.dimacs.proofs.read_gr.Lts as lts
-use Rattle.dimacs.proofs.rows.put_naturals.Reads as put-naturals-reads
-use Rattle.dimacs.proofs.sheet.read_sheet.Reads as read-sheet-reads
 
 returns : tie.Need-returns
 returns c =

@@ -4,10 +4,6 @@ use Rattle.dimacs.specs.Formats.{rulesOf}
 use borrow.Author.Needs.{needs}
 use Rattle.dimacs.proofs.format.rules_for.Statement.{statement}
 use Rattle.dimacs.proofs.format.rules_for.Tie as tie
-use Rattle.dimacs.proofs.format.rules_for.Reads as reads
-use Rattle.dimacs.proofs.format.rules_for.Lts as lts
-use Rattle.dimacs.proofs.format.rules_co.Reads as rules-co-reads
-use Rattle.dimacs.proofs.format.rules_gr.Reads as rules-gr-reads
 
 enum-told : tie.Need-enum-told
 enum-told c = search needs

@@ -6,8 +6,6 @@ use Rattle.dimacs.specs.declared.rows.Axis.{Axis}
 use borrow.Author.Needs.{needs}
 use Rattle.dimacs.proofs.rows.integer.Statement.{statement}
 use Rattle.dimacs.proofs.rows.integer.Tie as tie
-use Rattle.dimacs.proofs.rows.integer.Reads as reads
-use Rattle.dimacs.proofs.rows.integer.Lts as lts
 
 enum-told : tie.Need-enum-told
 enum-told c = search needs

@@ -8,9 +8,6 @@ use Rattle.dimacs.specs.Rows.{axisOf}
 use Rattle.dimacs.proofs.RowLaws.{Filled, fill-more, fill-end}
 use Rattle.dimacs.proofs.rows.put_integers.Statement.{statement}
 use Rattle.dimacs.proofs.rows.put_integers.Tie as tie
-use Rattle.dimacs.proofs.rows.put_integers.Reads as reads
-use Rattle.dimacs.proofs.rows.put_integers.Lts as lts
-use Rattle.dimacs.proofs.rows.integer.Reads as integer-reads
 
 abbrev Inv-loop : tie.InvT-loop
 Inv-loop axis m row₀ lines i₀ row i = Filled (axisOf axis) lines m row₀ row i

@@ -7,9 +7,6 @@ use Rattle.dimacs.specs.Rows.{columnOf}
 use Rattle.dimacs.proofs.RowLaws.{Filled, fill-more, fill-end}
 use Rattle.dimacs.proofs.rows.put_naturals.Statement.{statement}
 use Rattle.dimacs.proofs.rows.put_naturals.Tie as tie
-use Rattle.dimacs.proofs.rows.put_naturals.Reads as reads
-use Rattle.dimacs.proofs.rows.put_naturals.Lts as lts
-use Rattle.dimacs.proofs.rows.natural.Reads as natural-reads
 
 abbrev Inv-loop : tie.InvT-loop
 Inv-loop column m row₀ lines i₀ row i = Filled (columnOf column) lines m row₀ row i

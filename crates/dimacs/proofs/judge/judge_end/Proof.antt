@@ -1,8 +1,6 @@
 use Rattle.dimacs.specs.Judgement.{problemJudged, dataJudged, judged, ended}
-use Rattle.dimacs.proofs.sheet.judge_end.Statement.{statement}
-use Rattle.dimacs.proofs.sheet.judge_end.Tie as tie
-use Rattle.dimacs.proofs.sheet.judge_end.Reads as reads
-use Rattle.dimacs.proofs.sheet.judge_end.Lts as lts
+use Rattle.dimacs.proofs.judge.judge_end.Statement.{statement}
+use Rattle.dimacs.proofs.judge.judge_end.Tie as tie
 
 returns : tie.Need-returns
 unfolding ended

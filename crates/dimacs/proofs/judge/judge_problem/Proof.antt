@@ -2,11 +2,8 @@ use mathlib.Core.Path.{_≡_, sym, ap, _∙_}
 use borrow.Author.Tests.{not-true, not-false, lt-ltb, le-ltb}
 use Rattle.dimacs.specs.Judgement.{problemJudged, dataJudged, judged, ended}
 use borrow.Author.Needs.{needs}
-use Rattle.dimacs.proofs.sheet.judge_problem.Statement.{statement}
-use Rattle.dimacs.proofs.sheet.judge_problem.Tie as tie
-use Rattle.dimacs.proofs.sheet.judge_problem.Reads as reads
-use Rattle.dimacs.proofs.sheet.judge_problem.Lts as lts
-use Rattle.dimacs.proofs.format.are_within.Reads as are-within-reads
+use Rattle.dimacs.proofs.judge.judge_problem.Statement.{statement}
+use Rattle.dimacs.proofs.judge.judge_problem.Tie as tie
 
 returns : tie.Need-returns
 unfolding problemJudged

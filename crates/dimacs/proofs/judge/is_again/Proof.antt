@@ -1,9 +1,7 @@
 use native.Mathlib.Omega.{arith}
 use borrow.Author.Needs.{needs}
-use Rattle.dimacs.proofs.sheet.is_again.Statement.{statement}
-use Rattle.dimacs.proofs.sheet.is_again.Tie as tie
-use Rattle.dimacs.proofs.sheet.is_again.Reads as reads
-use Rattle.dimacs.proofs.sheet.is_again.Lts as lts
+use Rattle.dimacs.proofs.judge.is_again.Statement.{statement}
+use Rattle.dimacs.proofs.judge.is_again.Tie as tie
 
 sub-i : tie.Need-sub-i
 sub-i c = c .before .pre (c .if1 .taken) .0

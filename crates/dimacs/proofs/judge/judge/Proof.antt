@@ -1,12 +1,8 @@
 use mathlib.Core.Path.{_≡_, sym, ap, _∙_}
 use Rattle.dimacs.specs.Judgement.{problemJudged, dataJudged, judged, ended}
 use borrow.Author.Needs.{needs}
-use Rattle.dimacs.proofs.sheet.judge.Statement.{statement}
-use Rattle.dimacs.proofs.sheet.judge.Tie as tie
-use Rattle.dimacs.proofs.sheet.judge.Reads as reads
-use Rattle.dimacs.proofs.sheet.judge.Lts as lts
-use Rattle.dimacs.proofs.sheet.judge_data.Reads as judge-data-reads
-use Rattle.dimacs.proofs.sheet.judge_problem.Reads as judge-problem-reads
+use Rattle.dimacs.proofs.judge.judge.Statement.{statement}
+use Rattle.dimacs.proofs.judge.judge.Tie as tie
 
 enum-told : tie.Need-enum-told
 enum-told c = search needs

@@ -3,12 +3,8 @@ use borrow.Author.Tests.{not-true, not-false, lt-ltb, le-ltb}
 use Rattle.dimacs.specs.Judgement.{problemJudged, dataJudged, judged, ended}
 use Rattle.dimacs.proofs.Fairness.{once-in}
 use borrow.Author.Needs.{needs}
-use Rattle.dimacs.proofs.sheet.judge_data.Statement.{statement}
-use Rattle.dimacs.proofs.sheet.judge_data.Tie as tie
-use Rattle.dimacs.proofs.sheet.judge_data.Reads as reads
-use Rattle.dimacs.proofs.sheet.judge_data.Lts as lts
-use Rattle.dimacs.proofs.format.are_within.Reads as are-within-reads
-use Rattle.dimacs.proofs.sheet.is_again.Reads as is-again-reads
+use Rattle.dimacs.proofs.judge.judge_data.Statement.{statement}
+use Rattle.dimacs.proofs.judge.judge_data.Tie as tie
 
 returns : tie.Need-returns
 unfolding dataJudged
