@@ -38,32 +38,40 @@ unfolding heldZ
 heldZ-heldZ (pos v) = ap pos (omega arith)
 heldZ-heldZ (negsuc v) = ap negsuc (omega arith)
 
-held-natural : (ns : Numbers) (n : Natural) → heldField (takenNatural ns (heldNatural n)) ≡ heldField (takenNatural ns n)
+held-natural : (ns : Numbers) (n : Natural) → heldNumbers ns ≡ ns → takenNatural ns (heldNatural n) ≡ heldField (takenNatural ns n)
 unfolding takenNatural heldNatural heldField
-held-natural ns (Number v) = rw (held-held v)
-held-natural ns NoNumber = refl
+held-natural ns (Number v) h = ap (λ (m : Numbers). Taken (oneNatural m (held v))) (sym h)
+held-natural ns NoNumber h = refl
 
-held-integer : (ns : Numbers) (n : Integer) → heldField (takenInteger ns (heldInteger n)) ≡ heldField (takenInteger ns n)
+held-integer : (ns : Numbers) (n : Integer) → heldNumbers ns ≡ ns → takenInteger ns (heldInteger n) ≡ heldField (takenInteger ns n)
 unfolding takenInteger heldInteger heldField
-held-integer ns (Whole z) = rw (heldZ-heldZ z)
-held-integer ns NoWhole = refl
+held-integer ns (Whole z) h = ap (λ (m : Numbers). Taken (oneInteger m (heldZ z))) (sym h)
+held-integer ns NoWhole h = refl
+
+held-word : (ns : Numbers) (z : Bool) → heldNumbers ns ≡ ns → cond z (Taken ns) NotTaken ≡ heldField (cond z (Taken ns) NotTaken)
+unfolding heldField
+held-word ns true h = ap Taken (sym h)
+held-word ns false h = refl
+
+held-twice : (f : Field) → heldField (heldField f) ≡ heldField f
+unfolding heldField
+held-twice (Taken ns) = rw (held-held (ns .first), held-held (ns .second), held-held (ns .third), heldZ-heldZ (ns .x), heldZ-heldZ (ns .y))
+held-twice NotTaken = refl
 
 -- ---- a field, where the form's field begins with the byte b
 
-module _ (form s : List ℕ) (ns : Numbers) (b : ℕ) (e : b ≡ getD form 0 0) where
-  pub field-integer : (n : Integer) (f : Field) → leb 65 b && leb b 90 ≡ true → 88 ≤ b → n ≡ heldInteger (integerOf s) → f ≡ takenInteger ns n
-      → heldField f ≡ heldField (taken form s ns)
+module _ (form s : List ℕ) (ns : Numbers) (h : heldNumbers ns ≡ ns) (b : ℕ) (e : b ≡ getD form 0 0) where
+  pub field-integer : (n : Integer) (f : Field) → leb 65 b && leb b 90 ≡ true → 88 ≤ b → n ≡ heldInteger (integerOf s) → f ≡ takenInteger ns n → f ≡ heldField (taken form s ns)
   unfolding taken
-  field-integer n f t h p q = rw (q, p, ← e, t, le-leb 88 b h) (held-integer ns (integerOf s))
+  field-integer n f t k p q = rw (q, p, ← e, t, le-leb 88 b k) (held-integer ns (integerOf s) h)
 
-  pub field-natural : (n : Natural) (f : Field) → leb 65 b && leb b 90 ≡ true → b < 88 → n ≡ heldNatural (naturalOf s) → f ≡ takenNatural ns n
-      → heldField f ≡ heldField (taken form s ns)
+  pub field-natural : (n : Natural) (f : Field) → leb 65 b && leb b 90 ≡ true → b < 88 → n ≡ heldNatural (naturalOf s) → f ≡ takenNatural ns n → f ≡ heldField (taken form s ns)
   unfolding taken
-  field-natural n f t h p q = rw (q, p, ← e, t, lt-leb 88 b h) (held-natural ns (naturalOf s))
+  field-natural n f t k p q = rw (q, p, ← e, t, lt-leb 88 b k) (held-natural ns (naturalOf s) h)
 
-  pub field-word : (z : Bool) → leb 65 b && leb b 90 ≡ false → sameBytes s form ≡ z → heldField (cond z (Taken ns) NotTaken) ≡ heldField (taken form s ns)
+  pub field-word : (z : Bool) → leb 65 b && leb b 90 ≡ false → sameBytes s form ≡ z → cond z (Taken ns) NotTaken ≡ heldField (taken form s ns)
   unfolding taken
-  field-word z t p = rw (← e, t, p)
+  field-word z t p = rw (← e, t, p) (held-word ns z h)
 
 -- ---- numbers that are held alike, among the fields before
 
@@ -127,6 +135,7 @@ fields-first s e p = ⊎-elim one more (eq-or-lt-of-le (first-le 32 s))
 pub record Matching (form s : List ℕ) (ns : Numbers) (i j : ℕ) : Type 0 where
   pub form-in : i ≤ length form
   pub line-in : j ≤ length s
+  pub kept : heldNumbers ns ≡ ns
   pub same : heldFields (matched (fieldsOf form) 1 (fieldsOf s) none) ≡ heldFields (matched (fieldsOf (drop i form)) (j + 1) (fieldsOf (drop j s)) ns)
 
 -- what is known where a field f of the form and of the line is read: they end at d and e of what is left, p and t
@@ -141,7 +150,7 @@ pub record Step (form s : List ℕ) (ns : Numbers) (i j : ℕ) (p t : List ℕ) 
   pub form-field : word ≡ take d p
   pub field : List ℕ
   pub line-field : field ≡ take e t
-  pub same-field : heldField f ≡ heldField (taken word field ns)
+  pub same-field : f ≡ heldField (taken word field ns)
 
 module _ (form s : List ℕ) (ns : Numbers) (i j : ℕ) (p t : List ℕ) (d e : ℕ) (f : Field) (g : Step form s ns i j p t d e f) where
   step : heldFields (matched (fieldsOf form) 1 (fieldsOf s) none)
@@ -151,25 +160,29 @@ module _ (form s : List ℕ) (ns : Numbers) (i j : ℕ) (p t : List ℕ) (d e : 
       let long : length (take e t) ≡ e = length-take-le e t (g .in-line) in
       g .matching .same
       ∙ rw (← g .form-rest, ← g .line-rest, fields-first p d (g .form-end), fields-first t e (g .line-end), ← g .form-field, long, ← g .line-field)
-      (on-alike (taken (g .word) (g .field) ns) f _ _ (sym (g .same-field)) (alike-fields (later p d) (j + 1 + (e + 1)) (later t e)))
+      (on-alike (taken (g .word) (g .field) ns) f _ _ (sym (ap heldField (g .same-field) ∙ held-twice (taken (g .word) (g .field) ns))) (alike-fields (later p d) (j + 1 + (e + 1)) (later t e)))
 
-  pub field-bad : f ≡ NotTaken → heldFields (unread Misspelt (j + 1)) ≡ heldFields (matched (fieldsOf form) 1 (fieldsOf s) none)
-  unfolding onField
+  pub field-bad : f ≡ NotTaken → unread Misspelt (j + 1) ≡ heldFields (matched (fieldsOf form) 1 (fieldsOf s) none)
+  unfolding onField heldFields
   field-bad q = sym (step ∙ rw q)
 
   module _ (more : Numbers) (q : f ≡ Taken more) where
-    pub field-last : length p ≤ d → length t ≤ e → heldFields (Read more) ≡ heldFields (matched (fieldsOf form) 1 (fieldsOf s) none)
-    unfolding onField matched
-    field-last h k = sym (step ∙ rw (q, le-ltb _ _ h, le-ltb _ _ k))
+    more-held : heldNumbers more ≡ more
+    unfolding heldField
+    more-held = let e : heldField (Taken more) ≡ Taken more = rw (← q, g .same-field) (held-twice (taken (g .word) (g .field) ns)) in cc
 
-    pub field-extra : length p ≤ d → e < length t → heldFields (unread Extra (j + e + 2)) ≡ heldFields (matched (fieldsOf form) 1 (fieldsOf s) none)
-    unfolding onField matched
+    pub field-last : length p ≤ d → length t ≤ e → Read more ≡ heldFields (matched (fieldsOf form) 1 (fieldsOf s) none)
+    unfolding onField matched heldFields
+    field-last h k = ap Read (sym more-held) ∙ sym (step ∙ rw (q, le-ltb _ _ h, le-ltb _ _ k))
+
+    pub field-extra : length p ≤ d → e < length t → unread Extra (j + e + 2) ≡ heldFields (matched (fieldsOf form) 1 (fieldsOf s) none)
+    unfolding onField matched heldFields
     field-extra h k =
         let c : j + 1 + (e + 1) ≡ j + e + 2 = omega arith in
         sym (step ∙ rw (q, le-ltb _ _ h, lt-ltb _ _ k, fields-first (drop (e + 1) t) (firstAt 32 (drop (e + 1) t)) refl, c))
 
-    pub field-missing : d < length p → length t ≤ e → heldFields (unread Missing (j + e + 1)) ≡ heldFields (matched (fieldsOf form) 1 (fieldsOf s) none)
-    unfolding onField matched
+    pub field-missing : d < length p → length t ≤ e → unread Missing (j + e + 1) ≡ heldFields (matched (fieldsOf form) 1 (fieldsOf s) none)
+    unfolding onField matched heldFields
     field-missing h k =
         let c : (j + 1 + (e + 1)) - 1 ≡ j + e + 1 = omega arith in
         sym (step ∙ rw (q, lt-ltb _ _ h, le-ltb _ _ k, fields-first (drop (d + 1) p) (firstAt 32 (drop (d + 1) p)) refl, c))
@@ -183,9 +196,11 @@ module _ (form s : List ℕ) (ns : Numbers) (i j : ℕ) (p t : List ℕ) (d e : 
         record {
           form-in = omega (arith, rw (g .form-rest, length-drop) at h);
           line-in = omega (arith, rw (g .line-rest, length-drop) at k);
+          kept = more-held;
           same = step ∙ rw (q, lt-ltb _ _ h, lt-ltb _ _ k, g .form-rest, g .line-rest, drop-drop (d + 1) i form, drop-drop (e + 1) j s, a, b, c);
         }
 
 -- nothing is read yet
 pub matching-start : (form s : List ℕ) (ns : Numbers) → ns ≡ none → Matching form s ns 0 0
-matching-start form s ns e = record { form-in = omega arith; line-in = omega arith; same = rw e }
+unfolding held heldZ
+matching-start form s ns e = rw e (record { form-in = omega arith; line-in = omega arith; kept = refl; same = refl })

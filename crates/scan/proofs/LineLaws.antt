@@ -10,33 +10,29 @@ use borrow.Author.Tests.{eq-eqb, ne-eqb}
 use Rattle.scan.specs.Pieces.{firstAt, firstField, sameBytes, fieldsOf}
 use Rattle.scan.specs.Fields.{none, matched}
 use Rattle.scan.specs.Line.{problemLine, dataLine, faulty, lineOf}
-use Rattle.scan.specs.Held.{heldNumbers, heldFields, heldLine}
+use Rattle.scan.specs.Held.{heldFields, heldLine}
 use Rattle.scan.specs.declared.fields.Kind.the-variants.{EmptyLine, NoLetter}
 use Rattle.scan.specs.declared.fields.Fault.{Fault}
 use Rattle.scan.specs.declared.fields.Fields.{Fields}
 use Rattle.scan.specs.declared.fields.Fields.the-variants.{Read, Unread}
 use Rattle.scan.specs.declared.line.Line.the-variants.{Comment, Problem, Data, Faulty}
 
-alike-problem : (f g : Fields) → heldFields f ≡ heldFields g → heldLine (problemLine f) ≡ heldLine (problemLine g)
+held-problem : (f : Fields) → problemLine (heldFields f) ≡ heldLine (problemLine f)
 unfolding heldFields heldLine
-alike-problem (Read a) (Read b) e = let n : heldNumbers a ≡ heldNumbers b = cc in ap Problem n
-alike-problem (Read a) (Unread b) e = absurd (let z : _≡_ {A = ℕ} 0 1 = cc in omega arith)
-alike-problem (Unread a) (Read b) e = absurd (let z : _≡_ {A = ℕ} 0 1 = cc in omega arith)
-alike-problem (Unread a) (Unread b) e = let n : a ≡ b = cc in ap Faulty n
+held-problem (Read ns) = refl
+held-problem (Unread f) = refl
 
-alike-data : (f g : Fields) → heldFields f ≡ heldFields g → heldLine (dataLine f) ≡ heldLine (dataLine g)
+held-data : (f : Fields) → dataLine (heldFields f) ≡ heldLine (dataLine f)
 unfolding heldFields heldLine
-alike-data (Read a) (Read b) e = let n : heldNumbers a ≡ heldNumbers b = cc in ap Data n
-alike-data (Read a) (Unread b) e = absurd (let z : _≡_ {A = ℕ} 0 1 = cc in omega arith)
-alike-data (Unread a) (Read b) e = absurd (let z : _≡_ {A = ℕ} 0 1 = cc in omega arith)
-alike-data (Unread a) (Unread b) e = let n : a ≡ b = cc in ap Faulty n
+held-data (Read ns) = refl
+held-data (Unread f) = refl
 
 -- a fault is handed on as it came
 pub handed-on : (f : Fields) (x : Fault) → f ≡ Unread x → dataLine f ≡ problemLine f
 handed-on f x e = rw e
 
-pub line-empty : (problem rows s : List ℕ) → length s ≡ 0 → faulty EmptyLine ≡ lineOf problem rows s
-unfolding lineOf
+pub line-empty : (problem rows s : List ℕ) → length s ≡ 0 → faulty EmptyLine ≡ heldLine (lineOf problem rows s)
+unfolding lineOf heldLine
 line-empty problem rows s h = rw (eq-eqb (length s) 0 h)
 
 -- the line is not empty, and its first field, which ends at e, is l
@@ -44,26 +40,26 @@ module _ (problem rows s l : List ℕ) (e : ℕ) (some : length s ≡ 0 → ⊥)
   letter : l ≡ firstField s
   letter = el ∙ ap (λ (n : ℕ). take n s) ee
 
-  pub line-comment : sameBytes l (code "c" ∷ []) ≡ true → Comment ≡ lineOf problem rows s
-  unfolding lineOf
+  pub line-comment : sameBytes l (code "c" ∷ []) ≡ true → Comment ≡ heldLine (lineOf problem rows s)
+  unfolding lineOf heldLine
   line-comment t = rw (ne-eqb (length s) 0 some, ← letter, t)
 
   module _ (not-c : sameBytes l (code "c" ∷ []) ≡ false) (p : List ℕ) (d : ℕ) (ed : d ≡ firstAt 32 problem) (ep : p ≡ take d problem) where
     letter-p : p ≡ firstField problem
     letter-p = ep ∙ ap (λ (n : ℕ). take n problem) ed
 
-    pub line-problem : (f : Fields) → sameBytes l p ≡ true → heldFields f ≡ heldFields (matched (fieldsOf problem) 1 (fieldsOf s) none) → heldLine (problemLine f) ≡ heldLine (lineOf problem rows s)
+    pub line-problem : (f : Fields) → sameBytes l p ≡ true → f ≡ heldFields (matched (fieldsOf problem) 1 (fieldsOf s) none) → problemLine f ≡ heldLine (lineOf problem rows s)
     unfolding lineOf
-    line-problem f t h = rw (ne-eqb (length s) 0 some, ← letter, ← letter-p, not-c, t) (alike-problem f _ h)
+    line-problem f t h = rw (ne-eqb (length s) 0 some, ← letter, ← letter-p, not-c, t, h) (held-problem _)
 
     module _ (not-p : sameBytes l p ≡ false) (q : List ℕ) (k : ℕ) (ek : k ≡ firstAt 32 rows) (eq : q ≡ take k rows) where
       letter-q : q ≡ firstField rows
       letter-q = eq ∙ ap (λ (n : ℕ). take n rows) ek
 
-      pub line-data : (f : Fields) → sameBytes l q ≡ true → heldFields f ≡ heldFields (matched (fieldsOf rows) 1 (fieldsOf s) none) → heldLine (dataLine f) ≡ heldLine (lineOf problem rows s)
+      pub line-data : (f : Fields) → sameBytes l q ≡ true → f ≡ heldFields (matched (fieldsOf rows) 1 (fieldsOf s) none) → dataLine f ≡ heldLine (lineOf problem rows s)
       unfolding lineOf
-      line-data f t h = rw (ne-eqb (length s) 0 some, ← letter, ← letter-p, ← letter-q, not-c, not-p, t) (alike-data f _ h)
+      line-data f t h = rw (ne-eqb (length s) 0 some, ← letter, ← letter-p, ← letter-q, not-c, not-p, t, h) (held-data _)
 
-      pub line-none : sameBytes l q ≡ false → faulty NoLetter ≡ lineOf problem rows s
-      unfolding lineOf
+      pub line-none : sameBytes l q ≡ false → faulty NoLetter ≡ heldLine (lineOf problem rows s)
+      unfolding lineOf heldLine
       line-none t = rw (ne-eqb (length s) 0 some, ← letter, ← letter-p, ← letter-q, not-c, not-p, t)

@@ -11,7 +11,7 @@ use crate::pieces::same_bytes;
 ghost use mathlib.Core.Path.{_≡_};
 ghost use Rattle.scan.specs.Pieces.{fieldsOf};
 ghost use Rattle.scan.specs.Fields.{none, oneNatural, oneInteger, taken, matched};
-ghost use Rattle.scan.specs.Held.{heldField, heldFields};
+ghost use Rattle.scan.specs.Held.{heldNumbers, heldField, heldFields};
 
 // The numbers of a line, the last three without sign and the last two that may have a minus; 0 where there are fewer.
 pub struct Numbers {
@@ -86,7 +86,8 @@ fn add_integer(ns: Numbers, z: i32) -> Numbers
 
 // The field s where the form has `form`, after the numbers ns.
 fn take_field(form: &[u8], s: &[u8], ns: Numbers) -> Field
-    ensures { λ r. ⌜ heldField r ≡ heldField (taken (now (form .entry)) (now (s .entry)) ns) ⌝ }
+    requires { ⌜ heldNumbers ns ≡ ns ⌝ }
+    ensures { λ r. ⌜ r ≡ heldField (taken (now (form .entry)) (now (s .entry)) ns) ⌝ }
 {
     let b = first_byte(form);
     if (b'A' <= b) & (b <= b'Z') {
@@ -111,7 +112,7 @@ fn take_field(form: &[u8], s: &[u8], ns: Numbers) -> Field
 
 // The fields of s, from left to right, where the form has those of `form`.
 pub fn read_fields(form: &[u8], s: &[u8]) -> Fields
-    ensures { λ r. ⌜ heldFields r ≡ heldFields (matched (fieldsOf (now (form .entry))) 1 (fieldsOf (now (s .entry))) none) ⌝ }
+    ensures { λ r. ⌜ r ≡ heldFields (matched (fieldsOf (now (form .entry))) 1 (fieldsOf (now (s .entry))) none) ⌝ }
 {
     let mut ns = no_numbers();
     let mut i = 0;

@@ -31,7 +31,7 @@ fn data_line(f: Fields) -> Line
 
 // A line of a format whose problem line has the form `problem` and whose data lines have the form `data`.
 pub fn read_line(s: &[u8], problem: &[u8], data: &[u8]) -> Line
-    ensures { λ r. ⌜ heldLine r ≡ heldLine (lineOf (now (problem .entry)) (now («data» .entry)) (now (s .entry))) ⌝ }
+    ensures { λ r. ⌜ r ≡ heldLine (lineOf (now (problem .entry)) (now («data» .entry)) (now (s .entry))) ⌝ }
 {
     if s.len() == 0 {
         return Line::Faulty(Fault {

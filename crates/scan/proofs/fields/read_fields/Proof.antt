@@ -56,7 +56,7 @@ front-requires-2 : tie.Need-front-requires-2 Inv-loop μ-loop
 front-requires-2 c κs = search needs
 
 take-field-requires : tie.Need-take-field-requires Inv-loop μ-loop
-take-field-requires c κs = search needs
+take-field-requires c κs = c .before .before .before .before .before .before .loop .inv .kept
 
 enum-known-f : tie.Need-enum-known-f Inv-loop μ-loop
 enum-known-f c = search needs

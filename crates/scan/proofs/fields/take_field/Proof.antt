@@ -24,7 +24,7 @@ enum-told c = search needs
 returns : tie.Need-returns
 unfolding takenInteger
 returns c =
-    field-integer (c .before .before .before .before .before .before .before .before .args .form .now) _ _ _ (c .before .before .before .before .before .first-byte .ensures) _ _ (c .before .before .before .before .if1 .taken) (c .before .before .before .if2 .taken) (c .before .before .read-integer .ensures) (ap (takenInteger _) (sym (c .enum-told .given .1)))
+    field-integer (c .before .before .before .before .before .before .before .before .args .form .now) _ _ (c .before .before .before .before .before .before .before .before .pre) _ (c .before .before .before .before .before .first-byte .ensures) _ _ (c .before .before .before .before .if1 .taken) (c .before .before .before .if2 .taken) (c .before .before .read-integer .ensures) (ap (takenInteger _) (sym (c .enum-told .given .1)))
 
 add-integer-requires : tie.Need-add-integer-requires
 add-integer-requires c κs = search needs
@@ -35,7 +35,7 @@ returns-2 c =
     let ns = c .before .before .before .before .before .before .before .before .before .before .args .ns in
     let w = c .before .before .z .given .0 .0 in
     let same : toZ w32 (ofZ w32 w) ≡ w = search needs in
-    field-integer (c .before .before .before .before .before .before .before .before .before .before .args .form .now) _ _ _ (c .before .before .before .before .before .before .before .first-byte .ensures) _ _ (c .before .before .before .before .before .before .if1 .taken) (c .before .before .before .before .before .if2 .taken) (c .before .before .before .before .read-integer .ensures)
+    field-integer (c .before .before .before .before .before .before .before .before .before .before .args .form .now) _ _ (c .before .before .before .before .before .before .before .before .before .before .pre) _ (c .before .before .before .before .before .before .before .first-byte .ensures) _ _ (c .before .before .before .before .before .before .if1 .taken) (c .before .before .before .before .before .if2 .taken) (c .before .before .before .before .read-integer .ensures)
     (ap Taken (c .add-integer .ensures ∙ ap (oneInteger ns) same) ∙ ap (takenInteger ns) (sym (c .before .before .z .given .1)))
 
 read-natural-requires : tie.Need-read-natural-requires
@@ -50,7 +50,7 @@ enum-told-2 c = search needs
 returns-3 : tie.Need-returns-3
 unfolding takenNatural
 returns-3 c =
-    field-natural (c .before .before .before .before .before .before .before .before .args .form .now) _ _ _ (c .before .before .before .before .before .first-byte .ensures) _ _ (c .before .before .before .before .if1 .taken) (c .before .before .before .if2 .left) (c .before .before .read-natural .ensures) (ap (takenNatural _) (sym (c .enum-told2 .given .1)))
+    field-natural (c .before .before .before .before .before .before .before .before .args .form .now) _ _ (c .before .before .before .before .before .before .before .before .pre) _ (c .before .before .before .before .before .first-byte .ensures) _ _ (c .before .before .before .before .if1 .taken) (c .before .before .before .if2 .left) (c .before .before .read-natural .ensures) (ap (takenNatural _) (sym (c .enum-told2 .given .1)))
 
 add-natural-requires : tie.Need-add-natural-requires
 add-natural-requires c κs = search needs
@@ -58,18 +58,18 @@ add-natural-requires c κs = search needs
 returns-4 : tie.Need-returns-4
 unfolding takenNatural
 returns-4 c =
-    field-natural (c .before .before .before .before .before .before .before .before .before .before .args .form .now) _ _ _ (c .before .before .before .before .before .before .before .first-byte .ensures) _ _ (c .before .before .before .before .before .before .if1 .taken) (c .before .before .before .before .before .if2 .left) (c .before .before .before .before .read-natural .ensures) (ap Taken (c .add-natural .ensures) ∙ ap (takenNatural _) (sym (c .before .before .n .given .1)))
+    field-natural (c .before .before .before .before .before .before .before .before .before .before .args .form .now) _ _ (c .before .before .before .before .before .before .before .before .before .before .pre) _ (c .before .before .before .before .before .before .before .first-byte .ensures) _ _ (c .before .before .before .before .before .before .if1 .taken) (c .before .before .before .before .before .if2 .left) (c .before .before .before .before .read-natural .ensures) (ap Taken (c .add-natural .ensures) ∙ ap (takenNatural _) (sym (c .before .before .n .given .1)))
 
 same-bytes-requires : tie.Need-same-bytes-requires
 same-bytes-requires c κs = search needs
 
 returns-5 : tie.Need-returns-5
 returns-5 c =
-    field-word (c .before .before .before .before .before .before .args .form .now) _ _ _ (c .before .before .before .first-byte .ensures) true (c .before .before .if1 .left) (sym (c .before .same-bytes .ensures) ∙ c .if3 .taken)
+    field-word (c .before .before .before .before .before .before .args .form .now) _ _ (c .before .before .before .before .before .before .pre) _ (c .before .before .before .first-byte .ensures) true (c .before .before .if1 .left) (sym (c .before .same-bytes .ensures) ∙ c .if3 .taken)
 
 returns-6 : tie.Need-returns-6
 returns-6 c =
-    field-word (c .before .before .before .before .before .before .args .form .now) _ _ _ (c .before .before .before .first-byte .ensures) false (c .before .before .if1 .left) (sym (c .before .same-bytes .ensures) ∙ c .if3 .left)
+    field-word (c .before .before .before .before .before .before .args .form .now) _ _ (c .before .before .before .before .before .before .pre) _ (c .before .before .before .first-byte .ensures) false (c .before .before .if1 .left) (sym (c .before .same-bytes .ensures) ∙ c .if3 .left)
 
 pub take-field-spec : {M : Type 1} → statement M
 take-field-spec =

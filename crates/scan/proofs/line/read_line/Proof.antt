@@ -1,7 +1,5 @@
 use mathlib.Core.Path.{_≡_, sym, ap, _∙_}
 use Rattle.scan.specs.Line.{problemLine}
-use Rattle.scan.specs.Held.{heldLine}
-use Rattle.scan.specs.declared.fields.Fields.{Fields}
 use Rattle.scan.proofs.LineLaws.{handed-on, line-empty, line-comment, line-problem, line-data, line-none}
 use borrow.Author.Needs.{needs}
 use Rattle.scan.proofs.line.read_line.Statement.{statement}
@@ -9,7 +7,7 @@ use Rattle.scan.proofs.line.read_line.Tie as tie
 
 returns : tie.Need-returns
 returns c =
-    ap heldLine (line-empty (c .before .before .before .before .args .problem .now) (c .before .before .before .before .args .data .now) (c .before .before .before .before .args .s .now) (c .if1 .taken))
+    (line-empty (c .before .before .before .before .args .problem .now) (c .before .before .before .before .args .data .now) (c .before .before .before .before .args .s .now) (c .if1 .taken))
 
 first-at-requires : tie.Need-first-at-requires
 first-at-requires c κs = search needs
@@ -25,7 +23,7 @@ same-bytes-requires c κs = search needs
 
 returns-2 : tie.Need-returns-2
 returns-2 c =
-    ap heldLine (line-comment (c .before .before .before .before .before .before .before .before .before .args .problem .now) (c .before .before .before .before .before .before .before .before .before .args .data .now) (c .before .before .before .before .before .before .before .before .before .args .s .now) _ _ (c .before .before .before .before .before .if1 .left) (c .before .before .before .before .first-at .ensures .0) (c .before .before .before .front .ensures) (sym (c .before .same-bytes .ensures) ∙ c .if2 .taken))
+    (line-comment (c .before .before .before .before .before .before .before .before .before .args .problem .now) (c .before .before .before .before .before .before .before .before .before .args .data .now) (c .before .before .before .before .before .before .before .before .before .args .s .now) _ _ (c .before .before .before .before .before .if1 .left) (c .before .before .before .before .first-at .ensures .0) (c .before .before .before .front .ensures) (sym (c .before .same-bytes .ensures) ∙ c .if2 .taken))
 
 first-at-requires-2 : tie.Need-first-at-requires-2
 first-at-requires-2 c κs = search needs
@@ -50,12 +48,12 @@ data-line-requires c κs = search needs
 
 returns-3 : tie.Need-returns-3
 returns-3 c =
-    ap heldLine (c .data-line .ensures ∙ handed-on _ _ (c .before .enum-told .given .1))
+    c .data-line .ensures ∙ handed-on _ _ (c .before .enum-told .given .1)
     ∙ line-problem (c .before .before .before .before .before .before .before .before .before .before .before .before .before .before .before .before .before .args .problem .now) (c .before .before .before .before .before .before .before .before .before .before .before .before .before .before .before .before .before .args .data .now) (c .before .before .before .before .before .before .before .before .before .before .before .before .before .before .before .before .before .args .s .now) _ _ (c .before .before .before .before .before .before .before .before .before .before .before .before .before .if1 .left) (c .before .before .before .before .before .before .before .before .before .before .before .before .first-at .ensures .0) (c .before .before .before .before .before .before .before .before .before .before .before .front .ensures) (sym (c .before .before .before .before .before .before .before .before .before .same-bytes .ensures) ∙ c .before .before .before .before .before .before .before .before .if2 .left) _ _ (c .before .before .before .before .before .before .before .first-at2 .ensures .0) (c .before .before .before .before .before .before .front2 .ensures) _ (sym (c .before .before .before .before .before .same-bytes2 .ensures) ∙ c .before .before .before .before .if3 .taken) (c .before .before .before .read-fields .ensures)
 
 returns-4 : tie.Need-returns-4
 returns-4 c =
-    ap (λ (f : Fields). heldLine (problemLine f)) (sym (c .before .f .given .1))
+    ap problemLine (sym (c .before .f .given .1))
     ∙ line-problem (c .before .before .before .before .before .before .before .before .before .before .before .before .before .before .before .before .before .args .problem .now) (c .before .before .before .before .before .before .before .before .before .before .before .before .before .before .before .before .before .args .data .now) (c .before .before .before .before .before .before .before .before .before .before .before .before .before .before .before .before .before .args .s .now) _ _ (c .before .before .before .before .before .before .before .before .before .before .before .before .before .if1 .left) (c .before .before .before .before .before .before .before .before .before .before .before .before .first-at .ensures .0) (c .before .before .before .before .before .before .before .before .before .before .before .front .ensures) (sym (c .before .before .before .before .before .before .before .before .before .same-bytes .ensures) ∙ c .before .before .before .before .before .before .before .before .if2 .left) _ _ (c .before .before .before .before .before .before .before .first-at2 .ensures .0) (c .before .before .before .before .before .before .front2 .ensures) _ (sym (c .before .before .before .before .before .same-bytes2 .ensures) ∙ c .before .before .before .before .if3 .taken) (c .before .before .before .read-fields .ensures)
 
 first-at-requires-3 : tie.Need-first-at-requires-3
@@ -75,12 +73,12 @@ data-line-requires-2 c κs = search needs
 
 returns-5 : tie.Need-returns-5
 returns-5 c =
-    ap heldLine (c .data-line2 .ensures)
+    c .data-line2 .ensures
     ∙ line-data (c .before .before .before .before .before .before .before .before .before .before .before .before .before .before .before .before .before .before .before .args .problem .now) (c .before .before .before .before .before .before .before .before .before .before .before .before .before .before .before .before .before .before .before .args .data .now) (c .before .before .before .before .before .before .before .before .before .before .before .before .before .before .before .before .before .before .before .args .s .now) _ _ (c .before .before .before .before .before .before .before .before .before .before .before .before .before .before .before .if1 .left) (c .before .before .before .before .before .before .before .before .before .before .before .before .before .before .first-at .ensures .0) (c .before .before .before .before .before .before .before .before .before .before .before .before .before .front .ensures) (sym (c .before .before .before .before .before .before .before .before .before .before .before .same-bytes .ensures) ∙ c .before .before .before .before .before .before .before .before .before .before .if2 .left) _ _ (c .before .before .before .before .before .before .before .before .before .first-at2 .ensures .0) (c .before .before .before .before .before .before .before .before .front2 .ensures) (sym (c .before .before .before .before .before .before .before .same-bytes2 .ensures) ∙ c .before .before .before .before .before .before .if3 .left) _ _ (c .before .before .before .before .before .first-at3 .ensures .0) (c .before .before .before .before .front3 .ensures) _ (sym (c .before .before .before .same-bytes3 .ensures) ∙ c .before .before .if4 .taken) (c .before .read-fields2 .ensures)
 
 returns-6 : tie.Need-returns-6
 returns-6 c =
-    ap heldLine (line-none (c .before .before .before .before .before .before .before .before .before .before .before .before .before .before .before .before .before .args .problem .now) (c .before .before .before .before .before .before .before .before .before .before .before .before .before .before .before .before .before .args .data .now) (c .before .before .before .before .before .before .before .before .before .before .before .before .before .before .before .before .before .args .s .now) _ _ (c .before .before .before .before .before .before .before .before .before .before .before .before .before .if1 .left) (c .before .before .before .before .before .before .before .before .before .before .before .before .first-at .ensures .0) (c .before .before .before .before .before .before .before .before .before .before .before .front .ensures) (sym (c .before .before .before .before .before .before .before .before .before .same-bytes .ensures) ∙ c .before .before .before .before .before .before .before .before .if2 .left) _ _ (c .before .before .before .before .before .before .before .first-at2 .ensures .0) (c .before .before .before .before .before .before .front2 .ensures) (sym (c .before .before .before .before .before .same-bytes2 .ensures) ∙ c .before .before .before .before .if3 .left) _ _ (c .before .before .before .first-at3 .ensures .0) (c .before .before .front3 .ensures) (sym (c .before .same-bytes3 .ensures) ∙ c .if4 .left))
+    (line-none (c .before .before .before .before .before .before .before .before .before .before .before .before .before .before .before .before .before .args .problem .now) (c .before .before .before .before .before .before .before .before .before .before .before .before .before .before .before .before .before .args .data .now) (c .before .before .before .before .before .before .before .before .before .before .before .before .before .before .before .before .before .args .s .now) _ _ (c .before .before .before .before .before .before .before .before .before .before .before .before .before .if1 .left) (c .before .before .before .before .before .before .before .before .before .before .before .before .first-at .ensures .0) (c .before .before .before .before .before .before .before .before .before .before .before .front .ensures) (sym (c .before .before .before .before .before .before .before .before .before .same-bytes .ensures) ∙ c .before .before .before .before .before .before .before .before .if2 .left) _ _ (c .before .before .before .before .before .before .before .first-at2 .ensures .0) (c .before .before .before .before .before .before .front2 .ensures) (sym (c .before .before .before .before .before .same-bytes2 .ensures) ∙ c .before .before .before .before .if3 .left) _ _ (c .before .before .before .first-at3 .ensures .0) (c .before .before .front3 .ensures) (sym (c .before .same-bytes3 .ensures) ∙ c .if4 .left))
 
 pub read-line-spec : {M : Type 1} → statement M
 read-line-spec =
