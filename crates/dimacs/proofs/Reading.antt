@@ -24,7 +24,7 @@ use Rattle.dimacs.specs.Fair.{Fair, FormatFair}
 use Rattle.dimacs.specs.declared.format.Rules.{Rules}
 use Rattle.dimacs.specs.declared.format.Format.{Format}
 use Rattle.dimacs.specs.declared.judge.Head.{Head}
-use Rattle.dimacs.proofs.Fairness.{fair-of, inside, once-in, alike-judged, alike-fine, ProblemFine, problem-fine, DataFine, data-fine}
+use Rattle.dimacs.proofs.Fairness.{fair-of, inside, once-in, judged-held, fine-held, ProblemFine, problem-fine, DataFine, data-fine}
 
 -- what holds at a line's start: `at` bytes are read, the line is line k, and the state is s
 pub record Going (F : Format) (text : List ℕ) (s : State) (at k : ℕ) : Type 0 where
@@ -55,7 +55,7 @@ pub record Turn (F : Format) (text : List ℕ) (h : Head) (taken : List Bool) (l
   pub in-left : e ≤ length left
   pub line : List ℕ
   pub line-cut : line ≡ take e left
-  pub same-line : heldLine l ≡ heldLine (formatLine F line)
+  pub held-line : l ≡ heldLine (formatLine F line)
   pub rules : R ≡ rulesOf F (h .problem)
   pub judgement : j ≡ judged R h taken k l
 
@@ -63,10 +63,13 @@ module _ (F : Format) (text : List ℕ) (h : Head) (taken : List Bool) (lines : 
   fair : Fair R
   fair = rw (g .rules) (fair-of F (g .ok) (h .problem) (g .going .nodes))
 
+  same-judgement : j ≡ judged R h taken k (formatLine F (g .line))
+  same-judgement = g .judgement ∙ (ap (judged R h taken k) (g .held-line) ∙ judged-held R fair h taken k (formatLine F (g .line)))
+
   turn : readText F text ≡ onJudged j (readLines F (linesOf (drop (at + e + 1) text)) (k + 1) (next R (state h taken lines) (formatLine F (g .line))))
   unfolding readLines
   turn =
-      rw (g .judgement, alike-judged R fair h taken k l (formatLine F (g .line)) (g .same-line), g .rules, g .line-cut, g .text-left)
+      rw (same-judgement, g .rules, g .line-cut, g .text-left)
       (g .going .same ∙ rw (lines-step (drop at text) e (g .line-end ∙ ap (firstAt 10) (g .text-left)) (simp length-drop (omega (arith, g .more))), drop-drop (e + 1) at text, ← add-assoc at e 1))
 
   pub line-out : (x : Refusal) → j ≡ Refused x → readText F text ≡ refused x
@@ -77,7 +80,7 @@ module _ (F : Format) (text : List ℕ) (h : Head) (taken : List Bool) (lines : 
     onward : readText F text ≡ readLines F (linesOf (drop (at + e + 1) text)) (k + 1) (next R (state h taken lines) l)
     unfolding onJudged
     onward =
-        let true-line = alike-fine R fair h taken k l (formatLine F (g .line)) (g .same-line) (sym (g .judgement) ∙ fine) in
+        let true-line = g .held-line ∙ fine-held R fair h taken k (formatLine F (g .line)) (sym same-judgement ∙ fine) in
         rw true-line (rw fine at turn)
 
     step-in : at + e + 1 ≤ length text + 1

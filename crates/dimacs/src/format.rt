@@ -128,7 +128,7 @@ pub fn rules_for(format: Format, problem: Numbers) -> Rules
 
 // What a line is.
 pub fn line_of(format: Format, s: &[u8]) -> Line
-    ensures { λ r. ⌜ heldLine r ≡ heldLine (formatLine format (now (s .entry))) ⌝ }
+    ensures { λ r. ⌜ r ≡ heldLine (formatLine format (now (s .entry))) ⌝ }
 {
     match format {
         Format::Graph => read_line(s, b"p sp N M", b"a U V W"),

@@ -50,12 +50,13 @@ pub fn put_naturals(lines: [Numbers; 2048], column: Column, m: usize, row: &mut 
     }
 }
 
-pub fn put_integers(lines: [Numbers; 2048], axis: Axis, m: usize, row: &mut [i32])
-    requires { ⌜ (m ≤ 2048) × (m ≤ length (now row)) ⌝ }
-    ensures { λ _. ⌜ now (row .exit) ≡ map (axisOf axis) (take m lines) ++ drop m (now (row .entry)) ⌝ }
+// The same for numbers that may have a minus.
+pub fn put_integers(lines: [Numbers; 2048], axis: Axis, n: usize, row: &mut [i32])
+    requires { ⌜ (n ≤ 2048) × (n ≤ length (now row)) ⌝ }
+    ensures { λ _. ⌜ now (row .exit) ≡ map (axisOf axis) (take n lines) ++ drop n (now (row .entry)) ⌝ }
 {
     let mut i = 0;
-    while i < m {
+    while i < n {
         let ns = lines[i];
         let z = integer(ns, axis);
         row[i] = z;

@@ -58,6 +58,11 @@ unfolding heldField
 held-twice (Taken ns) = rw (held-held (ns .first), held-held (ns .second), held-held (ns .third), heldZ-heldZ (ns .x), heldZ-heldZ (ns .y))
 held-twice NotTaken = refl
 
+taken-held : (f : Field) (ns : Numbers) → heldField f ≡ f → f ≡ Taken ns → heldNumbers ns ≡ ns
+unfolding heldField
+taken-held (Taken m) ns e q = cc
+taken-held NotTaken ns e q = absurd (let z : _≡_ {A = ℕ} 0 1 = cc in omega arith)
+
 -- ---- a field, where the form's field begins with the byte b
 
 module _ (form s : List ℕ) (ns : Numbers) (h : heldNumbers ns ≡ ns) (b : ℕ) (e : b ≡ getD form 0 0) where
@@ -168,8 +173,7 @@ module _ (form s : List ℕ) (ns : Numbers) (i j : ℕ) (p t : List ℕ) (d e : 
 
   module _ (more : Numbers) (q : f ≡ Taken more) where
     more-held : heldNumbers more ≡ more
-    unfolding heldField
-    more-held = let e : heldField (Taken more) ≡ Taken more = rw (← q, g .same-field) (held-twice (taken (g .word) (g .field) ns)) in cc
+    more-held = taken-held f more (rw (g .same-field) (held-twice (taken (g .word) (g .field) ns))) q
 
     pub field-last : length p ≤ d → length t ≤ e → Read more ≡ heldFields (matched (fieldsOf form) 1 (fieldsOf s) none)
     unfolding onField matched heldFields

@@ -10,10 +10,10 @@ use Rattle.dimacs.proofs.rows.put_integers.Statement.{statement}
 use Rattle.dimacs.proofs.rows.put_integers.Tie as tie
 
 abbrev Inv-loop : tie.InvT-loop
-Inv-loop axis m row₀ lines i₀ row i = Filled (axisOf axis) lines m row₀ row i
+Inv-loop axis n row₀ lines i₀ row i = Filled (axisOf axis) lines n row₀ row i
 
 abbrev μ-loop : tie.MeasureT-loop
-μ-loop axis m row₀ lines i₀ row i = m - i
+μ-loop axis n row₀ lines i₀ row i = n - i
 
 loop-holds : tie.Need-loop-holds Inv-loop μ-loop
 loop-holds c = search needs
@@ -43,7 +43,7 @@ loop-again : tie.Need-loop-again Inv-loop μ-loop
 loop-again c =
     let args = c .before .before .before .before .args in
     let long : length (args .t1) ≡ 2048 = search needs in
-    fill-more _ (args .t1) (args .m) (args .row .now) _ _ (c .before .before .before .loop .inv) _ _ (omega arith) (omega arith) (c .before .before .loop-test .taken) (toZ-ofZ (sfits-of (c .integer .ok)) ∙ c .integer .ensures)
+    fill-more _ (args .t1) (args .n) (args .row .now) _ _ (c .before .before .before .loop .inv) _ _ (omega arith) (omega arith) (c .before .before .loop-test .taken) (toZ-ofZ (sfits-of (c .integer .ok)) ∙ c .integer .ensures)
 
 same-length : tie.Need-same-length Inv-loop μ-loop
 same-length c = c .before .loop .inv .long

@@ -31,7 +31,7 @@ turn c =
       in-left = c .before .before .before .before .before .before .first-at .ensures .1;
       line = c .before .before .before .before .before .front .result .now;
       line-cut = c .before .before .before .before .before .front .ensures;
-      same-line = c .before .before .before .before .line-of .ensures;
+      held-line = c .before .before .before .before .line-of .ensures;
       rules = c .before .before .rules-for .ensures;
       judgement = c .judge .ensures;
     }
