@@ -11,3 +11,4 @@ pub mod RunLaws
 pub mod Trace
 pub mod TraceLaws
 pub mod Bounds
+pub mod Toward
