@@ -15,3 +15,11 @@ pub mod Sparing
 pub mod Pruning
 pub mod Checking
 pub mod Rows
+pub mod Settling
+pub mod SettlingLaws
+pub mod Marking
+pub mod Relaxing
+pub mod Scanning
+pub mod Tracing
+pub mod Limits
+pub mod Toward
