@@ -11,3 +11,5 @@ pub mod RunLaws
 pub mod Trace
 pub mod TraceLaws
 pub mod Bounds
+pub mod Seen
+pub mod NearestIs
