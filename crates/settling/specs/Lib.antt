@@ -13,3 +13,5 @@ pub mod TraceLaws
 pub mod Bounds
 pub mod Seen
 pub mod NearestIs
+pub mod SeenLaws
+pub mod SettleIs

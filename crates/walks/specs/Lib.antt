@@ -23,3 +23,4 @@ pub mod Scanning
 pub mod Tracing
 pub mod Limits
 pub mod Toward
+pub mod RowsLaws

@@ -38,14 +38,14 @@ started {N} n {s} {L} b = record {
 -- the arcs out of u that `Seen` tells are relaxed, and those out of all other settled nodes
 pub record Relaxing (N : Net) (n s : ℕ) (L : Labelling) (u : ℕ) (Seen : ℕ → Type 0) (c : ℕ) : Type 0 where
   pub progress : Progress N n s L (λ e. N .tail e ≡ u → Seen e) c
-  pub done : L .Settled u
+  pub settled : L .Settled u
   pub last : (x : ℕ) → L .Settled x → NotAfter (L .length x) (L .arcs x) (L .length u) (L .arcs u)
   pub room : L .arcs u + 1 ≤ c
 
 -- L′ is L with u settled
 pub record Marked (L L′ : Labelling) (u : ℕ) : Type 0 where
   pub now : L′ .Settled u
-  pub done : (x : ℕ) → x ≢ u → L .Settled x ↔ L′ .Settled x
+  pub settled : (x : ℕ) → x ≢ u → L .Settled x ↔ L′ .Settled x
   pub labelled : (x : ℕ) → L .Labelled x ↔ L′ .Labelled x
   pub length : (x : ℕ) → L .length x ≡ L′ .length x
   pub arcs : (x : ℕ) → L .arcs x ≡ L′ .arcs x
@@ -61,28 +61,28 @@ settle {N} {n} {s} {c} {u} {L} {L′} {Seen} P h low high m unseen = record {
     start-arcs = omega (arith, m .arcs s, P .start-arcs);
     either = λ v. elim (ℕ-discrete v u) [
       | yes e ↦ yes (subst (L′ .Settled) (sym e) (m .now))
-      | no e ↦ map-dec (m .done v e .0) (m .done v e .1) (P .either v)
+      | no e ↦ map-dec (m .settled v e .0) (m .settled v e .1) (P .either v)
     ];
     settled-labelled = λ v d. elim (ℕ-discrete v u) [
       | yes e ↦ m .labelled v .0 (subst (L .Labelled) (sym e) (h .labelled))
-      | no e ↦ m .labelled v .0 (P .settled-labelled v (m .done v e .1 d))
+      | no e ↦ m .labelled v .0 (P .settled-labelled v (m .settled v e .1 d))
     ];
     walk = λ v k. sized (m .length v) (m .arcs v) (P .walk v (m .labelled v .1 k));
     relaxed = λ e a seen d. elim (ℕ-discrete (N .tail e) u) [
       | yes p ↦ absurd (unseen e a p (seen p))
-      | no p ↦ again e (P .relaxed e a tt (m .done _ p .1 d))
+      | no p ↦ again e (P .relaxed e a tt (m .settled _ p .1 d))
     ];
     order = λ x v d k o. before-as (m .length x) (m .arcs x) (m .length v) (m .arcs v) (elim (ℕ-discrete x u) [
       | yes e ↦ rw e (h .first v (m .labelled v .1 k) (still v o) (other v o))
-      | no e ↦ P .order x v (m .done x e .1 d) (m .labelled v .1 k) (still v o)
+      | no e ↦ P .order x v (m .settled x e .1 d) (m .labelled v .1 k) (still v o)
     ]);
-    count = count-more u low high (h .unsettled) (m .now) (m .done) (P .count);
+    count = count-more u low high (h .unsettled) (m .now) (m .settled) (P .count);
     few = λ v k. omega (arith, m .arcs v, P .few v (m .labelled v .1 k));
   };
-  done = m .now;
+  settled = m .now;
   last = λ x d. notAfter-as (m .length x) (m .arcs x) (m .length u) (m .arcs u) (elim (ℕ-discrete x u) [
     | yes e ↦ rw e (notAfter-refl _ _)
-    | no e ↦ before-notAfter (P .order x u (m .done x e .1 d) (h .labelled) (h .unsettled))
+    | no e ↦ before-notAfter (P .order x u (m .settled x e .1 d) (h .labelled) (h .unsettled))
   ]);
   room = omega (arith, m .arcs u, P .few u (h .labelled));
 }
@@ -97,4 +97,4 @@ settle {N} {n} {s} {c} {u} {L} {L′} {Seen} P h low high m unseen = record {
     other v o e = o (subst (L′ .Settled) (sym e) (m .now))
 
     still : (v : ℕ) → ¬ L′ .Settled v → ¬ L .Settled v
-    still v o d = o (m .done v (other v o) .0 d)
+    still v o d = o (m .settled v (other v o) .0 d)

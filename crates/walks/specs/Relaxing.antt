@@ -41,7 +41,7 @@ relax-none {N} {u = u} {i = i} {L = L} R more ok =
         count = P .count;
         few = P .few;
       };
-      done = R .done;
+      settled = R .settled;
       last = R .last;
       room = R .room;
     }
@@ -54,7 +54,7 @@ pub record Relabelled (L L′ : Labelling) (v d k : ℕ) : Type 0 where
   pub labelled : (x : ℕ) → x ≢ v → L .Labelled x ↔ L′ .Labelled x
   pub length : (x : ℕ) → L .Labelled x → x ≢ v → L .length x ≡ L′ .length x
   pub arcs : (x : ℕ) → L .Labelled x → x ≢ v → L .arcs x ≡ L′ .arcs x
-  pub done : (x : ℕ) → L .Settled x ↔ L′ .Settled x
+  pub settled : (x : ℕ) → L .Settled x ↔ L′ .Settled x
 
 -- it is an arc out of u, and its head had no label or a later one
 pub relax-better : {N : Net} {n s c u i : ℕ} {L L′ : Labelling} {Seen Seen′ : ℕ → Type 0}
@@ -67,31 +67,31 @@ relax-better {N} {n} {s} {c} {u} {i} {L} {L′} {Seen} {Seen′} R more arc from
     start = m .labelled s start-other .0 (P .start);
     start-length = omega (arith, m .length s (P .start) start-other, P .start-length);
     start-arcs = omega (arith, m .arcs s (P .start) start-other, P .start-arcs);
-    either = λ x. map-dec (m .done x .0) (m .done x .1) (P .either x);
-    settled-labelled = λ x d. m .labelled x (other x (m .done x .1 d)) .0 (P .settled-labelled x (m .done x .1 d));
+    either = λ x. map-dec (m .settled x .0) (m .settled x .1) (P .either x);
+    settled-labelled = λ x d. m .labelled x (other x (m .settled x .1 d)) .0 (P .settled-labelled x (m .settled x .1 d));
     walk = λ x k. elim (ℕ-discrete x v) [
-      | yes e ↦ rw e (sized (m .now-length) (m .now-arcs) (longer i arc from (P .walk u (P .settled-labelled u (R .done)))))
+      | yes e ↦ rw e (sized (m .now-length) (m .now-arcs) (longer i arc from (P .walk u (P .settled-labelled u (R .settled)))))
       | no e ↦ sized (m .length x (m .labelled x e .1 k) e) (m .arcs x (m .labelled x e .1 k) e) (P .walk x (m .labelled x e .1 k))
     ];
     relaxed = λ e a seen d. elim (ℕ-discrete e i) [
       | yes p ↦ subst (Relaxed N L′) (sym p) itself
-      | no p ↦ again e (P .relaxed e a (λ q. more e a q p (seen q)) (m .done _ .1 d)) (m .done _ .1 d)
+      | no p ↦ again e (P .relaxed e a (λ q. more e a q p (seen q)) (m .settled _ .1 d)) (m .settled _ .1 d)
     ];
     order = λ x y d k o. elim (ℕ-discrete y v) [
-      | yes e ↦ rw e (before-as (length-settled x (m .done x .1 d)) (arcs-settled x (m .done x .1 d)) (m .now-length) (m .now-arcs)
-          (less-before (notAfter-less (R .last x (m .done x .1 d)) (less-add (L .length u) (L .arcs u) (N .weight i)))))
-      | no e ↦ before-as (length-settled x (m .done x .1 d)) (arcs-settled x (m .done x .1 d)) (m .length y (m .labelled y e .1 k) e) (m .arcs y (m .labelled y e .1 k) e)
-          (P .order x y (m .done x .1 d) (m .labelled y e .1 k) (λ d′. o (m .done y .0 d′)))
+      | yes e ↦ rw e (before-as (length-settled x (m .settled x .1 d)) (arcs-settled x (m .settled x .1 d)) (m .now-length) (m .now-arcs)
+          (less-before (notAfter-less (R .last x (m .settled x .1 d)) (less-add (L .length u) (L .arcs u) (N .weight i)))))
+      | no e ↦ before-as (length-settled x (m .settled x .1 d)) (arcs-settled x (m .settled x .1 d)) (m .length y (m .labelled y e .1 k) e) (m .arcs y (m .labelled y e .1 k) e)
+          (P .order x y (m .settled x .1 d) (m .labelled y e .1 k) (λ d′. o (m .settled y .0 d′)))
     ];
-    count = count-same (λ x a b. m .done x) (P .count);
+    count = count-same (λ x a b. m .settled x) (P .count);
     few = λ x k. elim (ℕ-discrete x v) [
       | yes e ↦ rw e (omega (arith, m .now-arcs, R .room))
       | no e ↦ omega (arith, m .arcs x (m .labelled x e .1 k) e, P .few x (m .labelled x e .1 k))
     ];
   };
-  done = m .done u .0 (R .done);
-  last = λ x d. notAfter-as (length-settled x (m .done x .1 d)) (arcs-settled x (m .done x .1 d)) (length-settled u (R .done)) (arcs-settled u (R .done)) (R .last x (m .done x .1 d));
-  room = omega (arith, arcs-settled u (R .done), R .room);
+  settled = m .settled u .0 (R .settled);
+  last = λ x d. notAfter-as (length-settled x (m .settled x .1 d)) (arcs-settled x (m .settled x .1 d)) (length-settled u (R .settled)) (arcs-settled u (R .settled)) (R .last x (m .settled x .1 d));
+  room = omega (arith, arcs-settled u (R .settled), R .room);
 }
   where
     v : ℕ
@@ -125,7 +125,7 @@ relax-better {N} {n} {s} {c} {u} {i} {L} {L′} {Seen} {Seen′} R more arc from
     itself : Relaxed N L′ i
     itself = record {
       labelled = m .now;
-      label = notAfter-as (m .now-length) (m .now-arcs) (omega (arith, length-settled u (R .done), ap (L′ .length) from)) (omega (arith, arcs-settled u (R .done), ap (L′ .arcs) from)) (notAfter-refl _ _);
+      label = notAfter-as (m .now-length) (m .now-arcs) (omega (arith, length-settled u (R .settled), ap (L′ .length) from)) (omega (arith, arcs-settled u (R .settled), ap (L′ .arcs) from)) (notAfter-refl _ _);
     }
 
     again : (e : ℕ) → Relaxed N L e → L .Settled (N .tail e) → Relaxed N L′ e
