@@ -10,8 +10,8 @@ pub mod Run
 pub mod RunLaws
 pub mod Trace
 pub mod TraceLaws
-pub mod Bounds
 pub mod Seen
 pub mod NearestIs
 pub mod SeenLaws
 pub mod SettleIs
+pub mod RunIs
