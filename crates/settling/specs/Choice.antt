@@ -1,6 +1,7 @@
 -- Choosing by a test, and two tests together. Assumes nothing.
 use mathlib.Core.Bool.{Bool, true, false, cond, _&&_}
 use mathlib.Core.Path.{_≡_, refl}
+use mathlib.Core.Logic.{_⊎_, inl, inr}
 use Prim.Native.Nat.{ℕ}
 use native.Mathlib.Omega.{arith}
 
@@ -9,6 +10,11 @@ cond-yes a b e = rw e
 
 pub cond-no {ℓ} : {A : Type ℓ} {t : Bool} (a b : A) → t ≡ false → cond t a b ≡ b
 cond-no a b e = rw e
+
+-- a test passes or fails
+pub either : (t : Bool) → (t ≡ true) ⊎ (t ≡ false)
+either true = inl refl
+either false = inr refl
 
 -- what holds of both choices, each where its test leads to it, holds of the choice
 pub cond-by {ℓ} : {A : Type ℓ} (P : A → Type 0) (t : Bool) (a b : A) → (t ≡ true → P a) → (t ≡ false → P b) → P (cond t a b)

@@ -1,5 +1,6 @@
 -- What the code of `settling` computes, step by step, and why that answers a search.
 pub mod Choice
+pub mod Toward
 pub mod Labels
 pub mod LabelsLaws
 pub mod Settle
@@ -10,5 +11,8 @@ pub mod Run
 pub mod RunLaws
 pub mod Trace
 pub mod TraceLaws
-pub mod Bounds
-pub mod Toward
+pub mod Seen
+pub mod NearestIs
+pub mod SeenLaws
+pub mod SettleIs
+pub mod RunIs
