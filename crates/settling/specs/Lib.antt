@@ -15,3 +15,4 @@ pub mod NearestIs
 pub mod SeenLaws
 pub mod SettleIs
 pub mod RunIs
+pub mod TraceIs
