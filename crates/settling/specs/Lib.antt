@@ -16,3 +16,4 @@ pub mod SeenLaws
 pub mod SettleIs
 pub mod RunIs
 pub mod TraceIs
+pub mod Right
