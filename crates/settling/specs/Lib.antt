@@ -16,3 +16,5 @@ pub mod NearestIs
 pub mod SeenLaws
 pub mod SettleIs
 pub mod RunIs
+pub mod TraceIs
+pub mod Right

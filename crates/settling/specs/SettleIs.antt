@@ -52,7 +52,7 @@ module _ {R : Rows} {n m : ℕ} (sound : Sound n m R) {keep : ℕ → Bool} wher
         let apart : u ≢ v = λ e. omega (arith, ap (lengthOf L) e, ap (arcsOf L) e, h .length, h .arcs, less .1 (omega (arith, ap (lengthOf L) e, h .length))) in
         record {
           relaxing = relax-better (h .relaxing) (λ e b q other le. omega arith) ((low, high), usable) from (λ y. rw (h .length, h .arcs) less) (rw (h .length, h .arcs) new);
-          full = full-labelled (h .full) v (l + w) (k + 1);
+          full = full-labelled (h .full) v (l + w) (k + 1) (a .head-low) (omega arith) (omega arith);
           length = sym (new .length u known apart) ∙ h .length;
           arcs = sym (new .arcs u known apart) ∙ h .arcs;
         })

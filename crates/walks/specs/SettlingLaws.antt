@@ -37,7 +37,7 @@ module _ {N : Net} {n s : ℕ} {L : Labelling} {c : ℕ} (P : Progress N n s L A
   pub settled-best : (v : ℕ) → L .Settled v → Best N s v (L .length v) (L .arcs v)
   settled-best v d = best-label (P .settled-labelled v d) λ x a b. before-notAfter (P .order v x d a b)
 
-  next-first : {u : ℕ} → Next L u → (x : ℕ) → L .Labelled x → ¬ L .Settled x → NotAfter (L .length u) (L .arcs u) (L .length x) (L .arcs x)
+  pub next-first : {u : ℕ} → Next L u → (x : ℕ) → L .Labelled x → ¬ L .Settled x → NotAfter (L .length u) (L .arcs u) (L .length x) (L .arcs x)
   next-first {u} h x a b = elim (ℕ-discrete x u) [
     | yes e ↦ rw e (notAfter-refl _ _)
     | no e ↦ before-notAfter (h .first x a b e)

@@ -1,39 +1,22 @@
 -- The route, traced back by the labels that a search has when its target is the next node. Assumes nothing.
-use mathlib.Core.Path.{_≡_, refl, sym, subst, ap, _∙_}
-use mathlib.Core.Logic.{_↔_, _⊎_, inl, inr}
-use mathlib.Core.List.{List, [], _∷_, _++_, append-assoc, append-nil}
+use mathlib.Core.Path.{_≡_, refl, sym}
+use mathlib.Core.Logic.{_⊎_, inl, inr}
 use Prim.Native.Nat.{ℕ, _+_, _≤_}
 use native.Mathlib.Omega.{arith}
 use Rattle.walks.specs.Walk.{Net}
-use Rattle.walks.specs.Order.{NotAfter, less-notAfter, less-add, less-before, notAfter-refl, notAfter-as, before-notAfter}
+use Rattle.walks.specs.Order.{NotAfter, notAfter-trans, less-not, less-notAfter, less-add, less-before, notAfter-refl, notAfter-as, before-notAfter}
 use Rattle.walks.specs.Least.{Best}
 use Rattle.walks.specs.LeastLaws.{best-sized, best-length, best-count}
-use Rattle.walks.specs.Route.{Candidate, Chosen, Route, start, into}
+use Rattle.walks.specs.Route.{Candidate, Chosen}
 use Rattle.walks.specs.RouteLaws.{no-arcs-start, some-candidate}
 use Rattle.walks.specs.Settling.{Labelling, Progress, All, Next}
-use Rattle.walks.specs.SettlingLaws.{settled-best, next-best, earlier-settled}
+use Rattle.walks.specs.SettlingLaws.{settled-best, next-best, next-first, earlier-settled}
 
--- From v on, the route to t goes by `arcs`
-pub record Onward (N : Net) (s t v : ℕ) (arcs : List ℕ) : Type 0 where
-  pub rest : (front : List ℕ) → Route N s v front → Route N s t (front ++ arcs)
-
-module _ {N : Net} {s t : ℕ} where
-  pub onward-end : Onward N s t t []
-  onward-end = record { rest = λ front r. subst (Route N s t) (sym (append-nil front)) r }
-
-  -- one arc further back
-  pub onward-back : {v e : ℕ} {arcs : List ℕ} → Chosen N s v e → Onward N s t v arcs → Onward N s t (N .tail e) (e ∷ arcs)
-  onward-back {e = e} {arcs} c o = record { rest = λ front r. subst (Route N s t) (append-assoc front (e ∷ []) arcs) (o .rest _ (into e c r)) }
-
-  -- s is reached
-  pub onward-route : {arcs : List ℕ} → Onward N s t s arcs → Route N s t arcs
-  onward-route o = o .rest [] start
-
--- e is a candidate into v by the labels: its tail is settled, and its labels and v's tell so
+-- e is a candidate into v by the labels
 pub record Fits (N : Net) (L : Labelling) (v e : ℕ) : Type 0 where
   pub arc : N .Arc e
   pub to : N .head e ≡ v
-  pub settled : L .Settled (N .tail e)
+  pub labelled : L .Labelled (N .tail e)
   pub length : L .length (N .tail e) + N .weight e ≡ L .length v
   pub arcs : L .arcs (N .tail e) + 1 ≡ L .arcs v
 
@@ -47,17 +30,24 @@ module _ {N : Net} {n s t : ℕ} {L : Labelling} {c : ℕ} (P : Progress N n s L
   traced-notAfter {v} (inl d) = before-notAfter (P .order v t d (next .labelled) (next .unsettled))
   traced-notAfter (inr p) = rw p (notAfter-refl _ _)
 
-  pub fits-candidate : {v : ℕ} → L .Settled v ⊎ (v ≡ t) → (e : ℕ) → Fits N L v e → Candidate N s v e
+  -- the label before t's is settled
+  pub fits-settled : {v : ℕ} → L .Settled v ⊎ (v ≡ t) → (e : ℕ) → Fits N L v e → L .Settled (N .tail e)
+  fits-settled at e f = elim (P .either (N .tail e)) [
+    | yes d ↦ d
+    | no d ↦ absurd (less-not (less-add _ _ (N .weight e)) (notAfter-as (sym (f .length)) (sym (f .arcs)) refl refl (notAfter-trans (traced-notAfter at) (next-first P next _ (f .labelled) d))))
+  ]
+
+  fits-candidate : {v : ℕ} → L .Settled v ⊎ (v ≡ t) → (e : ℕ) → Fits N L v e → Candidate N s v e
   fits-candidate at e f = record {
     length = _;
     count = _;
     arc = f .arc;
     to = f .to;
-    from = settled-best P _ (f .settled);
+    from = settled-best P _ (fits-settled at e f);
     best = best-sized (sym (f .length)) (sym (f .arcs)) (traced-best at);
   }
 
-  pub candidate-fits : {v : ℕ} → L .Settled v ⊎ (v ≡ t) → (e : ℕ) → Candidate N s v e → Fits N L v e
+  candidate-fits : {v : ℕ} → L .Settled v ⊎ (v ≡ t) → (e : ℕ) → Candidate N s v e → Fits N L v e
   candidate-fits {v} at e x =
       let l = best-length (x .best) (traced-best at) in
       let k = best-count (x .best) (traced-best at) in
@@ -70,7 +60,7 @@ module _ {N : Net} {n s t : ℕ} {L : Labelling} {c : ℕ} (P : Progress N n s L
       record {
         arc = x .arc;
         to = x .to;
-        settled = d;
+        labelled = P .settled-labelled _ d;
         length = omega (arith, best-length (x .from) (settled-best P _ d));
         arcs = omega (arith, best-count (x .from) (settled-best P _ d));
       }
