@@ -1,3 +1,4 @@
 pub mod Judge
+pub mod JudgeLaws
 pub mod Paper
 pub mod Says
