@@ -1,6 +1,6 @@
 -- What was judged in parts is judged whole, and what was judged fine is sound. Assumes nothing.
 use Prim.Native.Nat.{ℕ, _*_, _≤_}
-use mathlib.Core.Path.{_≡_, refl, _∙_}
+use mathlib.Core.Path.{_≡_, refl, sym, _∙_}
 use mathlib.Core.Bool.{Bool, true, false, _&&_}
 use mathlib.Core.List.{List}
 use native.Mathlib.Omega.{arith}
@@ -102,3 +102,36 @@ ends-fine n s t e =
     let q = and-true (leb 1 s && leb s n) (leb 1 t) (p .0) in
     let r = and-true (leb 1 s) (leb s n) (q .0) in
     (leb-true 1 s (r .0), leb-true s n (r .1), leb-true 1 t (q .1), leb-true t n (p .1))
+
+-- what a search is lent, where it was judged fine
+pub record Lent (n m : ℕ) (R : Rows) (s t places : ℕ) : Type 0 where
+  pub sound : Sound n m R
+  pub source-low : 1 ≤ s
+  pub source-high : s ≤ n
+  pub target-low : 1 ≤ t
+  pub target-high : t ≤ n
+  pub room : n ≤ places
+
+lent : {n m : ℕ} {R : Rows} {s t places : ℕ} → Sound n m R → n ≤ places → ends n s t ≡ Fine → Lent n m R s t places
+lent {n} {s = s} {t = t} sound room e =
+    let p = ends-fine n s t e in
+    record { sound = sound; source-low = p .0; source-high = p .1; target-low = p .2; target-high = p .3; room = room }
+
+module _ (n m : ℕ) (R : Rows) (s t places : ℕ) where
+  pub search-fine : searchJudged n m R s t places ≡ Fine → Lent n m R s t places
+  search-fine e =
+      let p = both-fine (networkJudged n m R (leb n places)) (ends n s t) (sym (search-judged n m R s t places) ∙ e) in
+      let q = network-fine n m R (leb n places) (p .0) in
+      lent (q .0) (leb-true n places (q .1)) (p .1)
+
+  pub boxed-fine : (x y boxes : List ℤ) → boxedJudged n m R x y boxes s t places ≡ Fine
+      → Lent n m R s t places × (n ≤ length x) × (n ≤ length y) × (4 * m ≤ length boxes)
+  boxed-fine x y boxes e =
+      let long = boxRowsLong n m x y boxes in
+      let p = both-fine (networkJudged n m R (long && leb n places)) _ (sym (boxed-judged n m R s t places x y boxes) ∙ e) in
+      let q = both-fine (each (goodPlace x y) BadCoordinate n) _ (p .1) in
+      let r = both-fine (each (goodBox boxes) BadBox m) (ends n s t) (q .1) in
+      let f = network-fine n m R (long && leb n places) (p .0) in
+      let o = and-true long (leb n places) (f .1) in
+      let l = long-boxes n m x y boxes (o .0) in
+      (lent (f .0) (leb-true n places (o .1)) (r .1), l .0, l .1, l .2)

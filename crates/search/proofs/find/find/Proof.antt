@@ -1,58 +1,56 @@
+-- `search::find::find` meets its contract: what the run and the trace give is an answer. Assumes nothing.
+use native.Mathlib.Omega.{arith}
 use borrow.Author.Needs.{needs}
+use borrow.Author.Tests.{not-true, not-false}
+use Rattle.settling.proofs.Widen.{widened}
+use Rattle.search.proofs.Answering.{count-small, none-answers, route-fits, found-answers}
 use Rattle.search.proofs.find.find.Statement.{statement}
 use Rattle.search.proofs.find.find.Tie as tie
-use Rattle.search.proofs.find.find.Reads as reads
-use Rattle.search.proofs.find.find.Lts as lts
-use Rattle.settling.proofs.run.run.Reads as run-reads
-use Rattle.settling.proofs.trace.trace.Reads as trace-reads
 
--- src/find.rt:32:9
 run-requires : tie.Need-run-requires
 run-requires c κs = search needs
 
--- src/find.rt:35:19
 cast-settled : tie.Need-cast-settled
-cast-settled c = ?
+cast-settled c = 
+    let s = c .before .before .before .before .before .before .before in
+    omega (arith, count-small (s .pre .0) _ (s .args .s) (s .args .t) (s .pre .2) (s .pre .3) (s .args .route .now) (s .pre .6) (c .before .before .run .ensures))
 
--- src/find.rt:37:9
 returns : tie.Need-returns
-returns c = ?
+returns c = 
+    let s = c .before .before .before .before .before .before .before .before in
+    none-answers (s .pre .0) _ (s .args .s) (s .args .t) (s .pre .2) (s .pre .3) (s .args .route .now) (s .pre .6) (c .before .before .before .run .ensures) (not-true _ (c .if1 .taken))
 
--- src/find.rt:39:5
 trace-requires : tie.Need-trace-requires
-trace-requires c κs = ?
+trace-requires c κs = 
+    let s = c .before .before .before .before .before .before .before .before .before in
+    let fits = route-fits (s .pre .0) _ (s .args .s) (s .args .t) (s .pre .2) (s .pre .3) (s .args .route .now) (s .pre .6) (c .before .before .before .before .run .ensures) (not-false _ (c .before .if1 .left)) in
+    (s .pre .4, omega (arith, s .pre .0), widened (s .pre .0), s .pre .1, fits)
 
--- src/find.rt:41:31
 sub-t21 : tie.Need-sub-t21
 sub-t21 c = search needs
 
--- src/find.rt:41:17
 mul-t22 : tie.Need-mul-t22
 mul-t22 c = search needs
 
--- src/find.rt:41:17
 element-copy-out-t25 : tie.Need-element-copy-out-t25
 element-copy-out-t25 c = search needs
 
--- src/find.rt:42:27
 sub-t26 : tie.Need-sub-t26
 sub-t26 c = search needs
 
--- src/find.rt:42:15
 mul-t27 : tie.Need-mul-t27
 mul-t27 c = search needs
 
--- src/find.rt:42:15
 element-copy-out-t30 : tie.Need-element-copy-out-t30
 element-copy-out-t30 c = search needs
 
--- src/find.rt:17:1
 same-length : tie.Need-same-length
 same-length c = search needs
 
--- src/find.rt:17:1
 returns-2 : tie.Need-returns-2
-returns-2 c = ?
+returns-2 c = 
+    let s = c .before .before .before .before .before .before .before .before .before .before .before .before .before .before in
+    found-answers (s .pre .0) _ (s .args .s) (s .args .t) (s .pre .2) (s .pre .3) (s .args .route .now) (s .pre .6) (c .before .before .before .before .before .before .before .before .before .run .ensures) (not-false _ (c .before .before .before .before .before .before .if1 .left)) (c .before .before .before .before .trace .ensures)
 
 pub find-spec : {M : Type 1} → statement M
 find-spec =
