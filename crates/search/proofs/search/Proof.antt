@@ -5,7 +5,7 @@ use lib.ListN.{length}
 use Rattle.settling.specs.Toward.{rows}
 use Rattle.search.specs.Says.{refused, answered}
 use Rattle.search.specs.JudgeLaws.{Lent, search-fine}
-use Rattle.search.proofs.Networks.{answers-alike, all-arcs}
+use Rattle.search.specs.Networks.{answers-alike, all-arcs}
 use Rattle.search.proofs.search.Statement.{statement}
 use Rattle.search.proofs.search.Tie as tie
 
