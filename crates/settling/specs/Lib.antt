@@ -17,3 +17,4 @@ pub mod SettleIs
 pub mod RunIs
 pub mod TraceIs
 pub mod Right
+pub mod LengthsTo

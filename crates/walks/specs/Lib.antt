@@ -22,5 +22,4 @@ pub mod Relaxing
 pub mod Scanning
 pub mod Tracing
 pub mod Limits
-pub mod Toward
 pub mod RowsLaws
