@@ -5,7 +5,7 @@ use mathlib.Core.Bool.{Bool, true, false, _&&_}
 use mathlib.Core.Path.{_≡_, refl, sym, subst, _∙_}
 use lib.Dec.{ltb, eqb}
 use borrow.Author.Tests.{lt-ltb, le-ltb, ltb-true, eqb-true, eq-eqb}
-use Rattle.walks.specs.Walk.{Net, reverse, kept}
+use Rattle.walks.specs.Walk.{Net, reverse}
 use Rattle.walks.specs.WalkLaws.{backward, kept-all}
 use Rattle.walks.specs.Rows.{Rows, at, network, turned, turned-network, turned-sound, Sound}
 use Rattle.walks.specs.Least.{Reached, Dist}

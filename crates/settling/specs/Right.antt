@@ -5,7 +5,7 @@ use native.Mathlib.Omega.{arith}
 use native.Mathlib.Numerals.{add-one}
 use native.Mathlib.Decide.{decLt}
 use mathlib.Core.Bool.{Bool, true, false, true≢false, false≢true}
-use mathlib.Core.Path.{_≡_, refl, sym, subst, ap, _∙_}
+use mathlib.Core.Path.{_≡_, refl}
 use mathlib.Core.Logic.{inr}
 use mathlib.Core.List.{List, _++_}
 use lib.ListN.{length, drop}
@@ -13,10 +13,8 @@ use Rattle.walks.specs.Walk.{Net, kept}
 use Rattle.walks.specs.Rows.{Rows, network, Sound}
 use Rattle.walks.specs.Least.{Reached, Dist, Best}
 use Rattle.walks.specs.LeastLaws.{best-dist, dist-unique}
-use Rattle.walks.specs.Settled.{Settled}
 use Rattle.walks.specs.Search.{Found, NoWalk}
 use Rattle.walks.specs.SettlingLaws.{settled-best, next-best, found-count, missed-count, reached-settled}
-use Rattle.settling.specs.declared.Labels.{Labels}
 use Rattle.settling.specs.declared.Outcome.{Outcome}
 use Rattle.settling.specs.Labels.{none, lengthOf, arcsOf}
 use Rattle.settling.specs.Run.{searchOf, labelsOf}

@@ -22,4 +22,3 @@ pub mod Relaxing
 pub mod Scanning
 pub mod Tracing
 pub mod Limits
-pub mod RowsLaws
