@@ -5,11 +5,12 @@ use native.Mathlib.Omega.{arith}
 use native.Mathlib.Numerals.{add-one}
 use native.Mathlib.Decide.{decLt}
 use mathlib.Core.Bool.{Bool, true, false, true≢false, false≢true}
-use mathlib.Core.Path.{_≡_, refl}
+use mathlib.Core.Path.{_≡_, refl, sym, subst}
 use mathlib.Core.Logic.{inr}
 use mathlib.Core.List.{List, _++_}
 use lib.ListN.{length, drop}
 use Rattle.walks.specs.Walk.{Net, kept}
+use Rattle.walks.specs.WalkLaws.{kept-all}
 use Rattle.walks.specs.Rows.{Rows, network, Sound}
 use Rattle.walks.specs.Least.{Reached, Dist, Best}
 use Rattle.walks.specs.LeastLaws.{best-dist, dist-unique}
@@ -79,16 +80,16 @@ module _ {R : Rows} {n m : ℕ} (sound : Sound n m R) {keep : ℕ → Bool} {s :
     pub search-missed : (t : ℕ) → searchOf R keep n m t s .found ≡ false → NoWalk (kept keep (network m R)) n s t (searchOf R keep n m t s .count)
     search-missed t e = missed (search-ends sound low high) e
 
-    -- no shortest length exceeds 511,000,000
-    pub length-limit : {t d : ℕ} → Dist (kept keep (network m R)) s t d → d ≤ 511_000_000
-    length-limit {t} x = limit (search-ends sound {t = t} low high) x
+    -- no shortest length by arcs that are kept exceeds 511,000,000
+    pub kept-limit : {t d : ℕ} → Dist (kept keep (network m R)) s t d → d ≤ 511_000_000
+    kept-limit {t} x = limit (search-ends sound {t = t} low high) x
 
     label : {o : Outcome} → Ends R keep n m s 0 o → (v : ℕ) → 1 ≤ v → v ≤ n → Label (kept keep (network m R)) s v (lengthOf (o .labels) v) (arcsOf (o .labels) v)
     unfolding seen
     label (finds stage next) v v-low v-high = absurd (omega (arith, next .labelled .0))
     label (misses {L = L} stage out left) v v-low v-high = elim (decLt (lengthOf L v) none) [
       | yes near ↦ elim (stage .progress .either v) [
-        | yes d ↦ let b = settled-best (stage .progress) v d in best (length-limit (best-dist b)) b
+        | yes d ↦ let b = settled-best (stage .progress) v d in best (kept-limit (best-dist b)) b
         | no d ↦ absurd (left v (v-low, v-high, near) d)
       ]
       | no far ↦
@@ -99,3 +100,7 @@ module _ {R : Rows} {n m : ℕ} (sound : Sound n m R) {keep : ℕ → Bool} {s :
     -- every node's label in a search to all nodes
     pub all-labels : (v : ℕ) → 1 ≤ v → v ≤ n → Label (kept keep (network m R)) s v (lengthOf (labelsOf R keep n m s) v) (arcsOf (labelsOf R keep n m s) v)
     all-labels v v-low v-high = label (search-ends sound low high) v v-low v-high
+
+-- nor does one by all arcs
+pub length-limit : {R : Rows} {n m s t d : ℕ} → Sound n m R → 1 ≤ s → s ≤ n → Dist (network m R) s t d → d ≤ 511_000_000
+length-limit {R} {n} {m} {s} {t} {d} sound low high x = kept-limit sound {keep = λ e. true} low high (subst (λ (N : Net). Dist N s t d) (sym (kept-all (network m R))) x)
