@@ -18,3 +18,4 @@ pub mod SettleIs
 pub mod RunIs
 pub mod TraceIs
 pub mod Right
+pub mod LengthsTo

@@ -5,18 +5,17 @@ use native.Mathlib.Omega.{arith}
 use native.Mathlib.Numerals.{add-one}
 use native.Mathlib.Decide.{decLt}
 use mathlib.Core.Bool.{Bool, true, false, true≢false, false≢true}
-use mathlib.Core.Path.{_≡_, refl, sym, subst, ap, _∙_}
+use mathlib.Core.Path.{_≡_, refl, sym, subst}
 use mathlib.Core.Logic.{inr}
 use mathlib.Core.List.{List, _++_}
 use lib.ListN.{length, drop}
 use Rattle.walks.specs.Walk.{Net, kept}
+use Rattle.walks.specs.WalkLaws.{kept-all}
 use Rattle.walks.specs.Rows.{Rows, network, Sound}
-use Rattle.walks.specs.Least.{Reached, Best}
-use Rattle.walks.specs.LeastLaws.{best-length, best-count}
-use Rattle.walks.specs.Settled.{Settled}
+use Rattle.walks.specs.Least.{Reached, Dist, Best}
+use Rattle.walks.specs.LeastLaws.{best-dist, dist-unique}
 use Rattle.walks.specs.Search.{Found, NoWalk}
 use Rattle.walks.specs.SettlingLaws.{settled-best, next-best, found-count, missed-count, reached-settled}
-use Rattle.settling.specs.declared.Labels.{Labels}
 use Rattle.settling.specs.declared.Outcome.{Outcome}
 use Rattle.settling.specs.Labels.{none, lengthOf, arcsOf}
 use Rattle.settling.specs.Run.{searchOf, labelsOf}
@@ -67,13 +66,12 @@ module _ {R : Rows} {n m : ℕ} (sound : Sound n m R) {keep : ℕ → Bool} {s :
     settled = missed-count (stage .progress) left t out;
   }
 
-  limits : {t d k : ℕ} {o : Outcome} → Ends R keep n m s t o → Best (kept keep (network m R)) s t d k → (k < n) × (d ≤ 511_000_000)
+  limit : {t d : ℕ} {o : Outcome} → Ends R keep n m s t o → Dist (kept keep (network m R)) s t d → d ≤ 511_000_000
   unfolding seen
-  limits {t} (finds stage next) b =
+  limit {t} (finds stage next) x =
       let near = next-near sound stage next in
-      let mine = next-best (stage .progress) t next in
-      (omega (arith, best-count b mine), omega (arith, best-length b mine))
-  limits {t} (misses stage out left) b = absurd (out (reached-settled (stage .progress) left t (record { length = _; count = _; walk = b .walk })))
+      omega (arith, dist-unique x (best-dist (next-best (stage .progress) t next)))
+  limit {t} (misses stage out left) x = absurd (out (reached-settled (stage .progress) left t (record { length = _; count = _; walk = x .walk })))
 
   module _ (low : 1 ≤ s) (high : s ≤ n) where
     pub search-found : (t : ℕ) → searchOf R keep n m t s .found ≡ true → (row : List ℕ) → n ≤ length row → Answers R keep n m s t (searchOf R keep n m t s) row
@@ -82,16 +80,16 @@ module _ {R : Rows} {n m : ℕ} (sound : Sound n m R) {keep : ℕ → Bool} {s :
     pub search-missed : (t : ℕ) → searchOf R keep n m t s .found ≡ false → NoWalk (kept keep (network m R)) n s t (searchOf R keep n m t s .count)
     search-missed t e = missed (search-ends sound low high) e
 
-    -- no best walk has n arcs, and no shortest length exceeds 511,000,000
-    pub best-limits : {t d k : ℕ} → Best (kept keep (network m R)) s t d k → (k < n) × (d ≤ 511_000_000)
-    best-limits {t} b = limits (search-ends sound {t = t} low high) b
+    -- no shortest length by arcs that are kept exceeds 511,000,000
+    pub kept-limit : {t d : ℕ} → Dist (kept keep (network m R)) s t d → d ≤ 511_000_000
+    kept-limit {t} x = limit (search-ends sound {t = t} low high) x
 
     label : {o : Outcome} → Ends R keep n m s 0 o → (v : ℕ) → 1 ≤ v → v ≤ n → Label (kept keep (network m R)) s v (lengthOf (o .labels) v) (arcsOf (o .labels) v)
     unfolding seen
     label (finds stage next) v v-low v-high = absurd (omega (arith, next .labelled .0))
     label (misses {L = L} stage out left) v v-low v-high = elim (decLt (lengthOf L v) none) [
       | yes near ↦ elim (stage .progress .either v) [
-        | yes d ↦ let b = settled-best (stage .progress) v d in best (best-limits b .1) b
+        | yes d ↦ let b = settled-best (stage .progress) v d in best (kept-limit (best-dist b)) b
         | no d ↦ absurd (left v (v-low, v-high, near) d)
       ]
       | no far ↦
@@ -102,3 +100,7 @@ module _ {R : Rows} {n m : ℕ} (sound : Sound n m R) {keep : ℕ → Bool} {s :
     -- every node's label in a search to all nodes
     pub all-labels : (v : ℕ) → 1 ≤ v → v ≤ n → Label (kept keep (network m R)) s v (lengthOf (labelsOf R keep n m s) v) (arcsOf (labelsOf R keep n m s) v)
     all-labels v v-low v-high = label (search-ends sound low high) v v-low v-high
+
+-- nor does one by all arcs
+pub length-limit : {R : Rows} {n m s t d : ℕ} → Sound n m R → 1 ≤ s → s ≤ n → Dist (network m R) s t d → d ≤ 511_000_000
+length-limit {R} {n} {m} {s} {t} {d} sound low high x = kept-limit sound {keep = λ e. true} low high (subst (λ (N : Net). Dist N s t d) (sym (kept-all (network m R))) x)

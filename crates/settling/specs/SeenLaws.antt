@@ -1,8 +1,8 @@
 -- How labels begin, are marked and are changed, as the mathematics of searches sees it. Assumes nothing.
-use Prim.Native.Nat.{ℕ, _+_, _-_, _<_, _≤_}
+use Prim.Native.Nat.{ℕ, _-_, _<_, _≤_}
 use native.Mathlib.Omega.{arith}
 use native.Mathlib.Decide.{ℕ-discrete}
-use mathlib.Core.Bool.{Bool, true, false, false≢true}
+use mathlib.Core.Bool.{true, false, false≢true}
 use mathlib.Core.Path.{_≡_, refl, sym, _∙_}
 use mathlib.Core.Logic.{_≢_}
 use mathlib.Core.List.{List}
@@ -11,7 +11,7 @@ use lib.Seq.{getD-set-same, getD-set-other}
 use Rattle.walks.specs.Marking.{Started, Marked}
 use Rattle.walks.specs.Relaxing.{Relabelled}
 use Rattle.settling.specs.declared.Labels.{Labels}
-use Rattle.settling.specs.Labels.{none, startOf, labelled, marked, lengthOf, arcsOf, settledOf}
+use Rattle.settling.specs.Labels.{none, startOf, labelled, marked, lengthOf}
 use Rattle.settling.specs.Seen.{seen}
 
 -- a place of 1..512 stored to, and the others
