@@ -79,7 +79,7 @@ row-cut route before n short long =
     let j = n - k in
     let e : n ≡ k + j = omega arith in
     let rest : drop k (take (k + j) before) ≡ take j (drop k before) =
-        ap (drop k) (take-add k j before) ∙ drop-at (take k before) (take j (drop k before)) k (length-take-le k before (omega arith)) in
+    ap (drop k) (take-add k j before) ∙ drop-at (take k before) (take j (drop k before)) k (length-take-le k before (omega arith)) in
     (rw (e, rest) (take-append-add route (drop k before) j), rw e (drop-append-add route (drop k before) j ∙ drop-drop j k before))
 
 -- a route has fewer arcs than there are nodes
@@ -128,7 +128,7 @@ module _ (n m : ℕ) (R : Rows) (s t : ℕ) (before : List ℕ) where
           getD-take (4 * m) boxes i (pos 0) (omega arith),
           getD-take (4 * m) boxes (i + 1) (pos 0) (omega arith),
           getD-take (4 * m) boxes (i + 2) (pos 0) (omega arith),
-          getD-take (4 * m) boxes (i + 3) (pos 0) (omega arith)
+          getD-take (4 * m) boxes (i + 3) (pos 0) (omega arith),
         )
 
     boxed-judged-cut : boxedJudged n m (cut m R) (take n x) (take n y) (take (4 * m) boxes) s t (length (take n before)) ≡ boxedJudged n m R x y boxes s t (length before)
@@ -157,13 +157,13 @@ module _ (n m : ℕ) (R : Rows) (s t : ℕ) (before : List ℕ) where
 
 -- two calls whose rows agree on the places that are needed have the same reply and write the same
 module _
-  (n m : ℕ) (R R′ : Rows) (rows : cut m R ≡ cut m R′) (before before′ : List ℕ) (route : take n before ≡ take n before′)
-  (s t : ℕ) {reply reply′ : Reply} {after after′ : List ℕ}
+    (n m : ℕ) (R R′ : Rows) (rows : cut m R ≡ cut m R′) (before before′ : List ℕ) (route : take n before ≡ take n before′)
+    (s t : ℕ) {reply reply′ : Reply} {after after′ : List ℕ}
   where
-  pub search-surplus : SearchSays n m R s t before reply after → SearchSays n m R′ s t before′ reply′ after′ → (reply ≡ reply′) × (take n after ≡ take n after′)
-  search-surplus p q = says-unique (rw (rows, route) at (search-cut n m R s t before p .0)) (search-cut n m R′ s t before′ q .0)
+    pub search-surplus : SearchSays n m R s t before reply after → SearchSays n m R′ s t before′ reply′ after′ → (reply ≡ reply′) × (take n after ≡ take n after′)
+    search-surplus p q = says-unique (rw (rows, route) at (search-cut n m R s t before p .0)) (search-cut n m R′ s t before′ q .0)
 
-  pub boxed-surplus : (x x′ y y′ boxes boxes′ : List ℤ) → take n x ≡ take n x′ → take n y ≡ take n y′ → take (4 * m) boxes ≡ take (4 * m) boxes′
-      → BoxedSays n m R x y boxes s t before reply after → BoxedSays n m R′ x′ y′ boxes′ s t before′ reply′ after′ → (reply ≡ reply′) × (take n after ≡ take n after′)
-  boxed-surplus x x′ y y′ boxes boxes′ ex ey eb p q =
-      says-unique (rw (rows, ex, ey, eb, route) at (boxed-cut n m R s t before x y boxes p .0)) (boxed-cut n m R′ s t before′ x′ y′ boxes′ q .0)
+    pub boxed-surplus : (x x′ y y′ boxes boxes′ : List ℤ) → take n x ≡ take n x′ → take n y ≡ take n y′ → take (4 * m) boxes ≡ take (4 * m) boxes′
+        → BoxedSays n m R x y boxes s t before reply after → BoxedSays n m R′ x′ y′ boxes′ s t before′ reply′ after′ → (reply ≡ reply′) × (take n after ≡ take n after′)
+    boxed-surplus x x′ y y′ boxes boxes′ ex ey eb p q =
+        says-unique (rw (rows, ex, ey, eb, route) at (boxed-cut n m R s t before x y boxes p .0)) (boxed-cut n m R′ s t before′ x′ y′ boxes′ q .0)

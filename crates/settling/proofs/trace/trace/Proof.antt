@@ -44,7 +44,7 @@ loop-holds : tie.Need-loop-holds Inv-loop μ-loop
 loop-holds c = (omega arith, omega arith, omega arith, refl, refl)
 
 arc-into-requires : tie.Need-arc-into-requires Inv-loop μ-loop
-arc-into-requires c κs = 
+arc-into-requires c κs =
     let p = c .before .before .before .before .before .before .before .pre in
     (omega arith, omega arith, p .2, p .3)
 
@@ -58,7 +58,7 @@ same-length : tie.Need-same-length Inv-loop μ-loop
 same-length c = omega arith
 
 returns : tie.Need-returns Inv-loop μ-loop
-returns c = 
+returns c =
     let a = c .before .before .before .before .before .before .before .before .before .before .args in
     let i = c .before .before .before .before .loop in
     let R = rows (a .tails .now) (a .heads .now) (a .weights .now) in
@@ -94,7 +94,7 @@ loop-less : tie.Need-loop-less Inv-loop μ-loop
 loop-less c = omega arith
 
 loop-again : tie.Need-loop-again Inv-loop μ-loop
-loop-again c = 
+loop-again c =
     let a = c .before .before .before .before .before .before .before .before .before .before .before .before .args in
     let i = c .before .before .before .before .before .before .loop in
     let R = rows (a .tails .now) (a .heads .now) (a .weights .now) in
@@ -114,7 +114,7 @@ same-length-2 : tie.Need-same-length-2 Inv-loop μ-loop
 same-length-2 c = omega arith
 
 returns-2 : tie.Need-returns-2 Inv-loop μ-loop
-returns-2 c = 
+returns-2 c =
     let i = c .before .loop in
     let z : i .k ≡ 0 = omega arith in
     sym (trace-over _ _ _ _ _ _) ∙ rw z at (i .inv .4)
