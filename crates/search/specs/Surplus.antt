@@ -3,6 +3,7 @@
 use Prim.Native.Nat.{ℕ, zero, suc, _+_, _-_, _*_, _≤_, _<_}
 use mathlib.Core.Path.{_≡_, refl, sym, ap, _∙_}
 use mathlib.Core.Bool.{Bool, true}
+use mathlib.Core.Logic.{inl, inr}
 use mathlib.Core.List.{List, _++_}
 use native.Mathlib.Omega.{arith}
 use native.Mathlib.Decide.{decLe}
@@ -21,9 +22,10 @@ use Rattle.geometry.specs.Box.{wellShapedB}
 use Rattle.geometry.specs.Row.{goodPlace, goodBox, boxOf, coordinate}
 use Rattle.walks.specs.Walk.{Net, kept}
 use Rattle.walks.specs.Rows.{Rows, at, network}
-use Rattle.walks.specs.RouteLaws.{route-count}
-use Rattle.walks.specs.Search.{Found}
-use Rattle.settling.specs.Right.{best-limits}
+use Rattle.walks.specs.Search.{Found, found-unique, not-both}
+use Rattle.settling.specs.Choice.{either}
+use Rattle.settling.specs.Run.{searchOf}
+use Rattle.settling.specs.Right.{search-found, search-missed}
 use Rattle.search.specs.Judge.{arcs, arcRowsLong, searchJudged, boxedJudged}
 use Rattle.search.specs.JudgeLaws.{Lent, search-fine, boxed-fine}
 use Rattle.search.specs.Says.{Answers, found, none, Says, refused, answered, SearchSays, BoxedSays, holding}
@@ -83,11 +85,15 @@ row-cut route before n short long =
     (rw (e, rest) (take-append-add route (drop k before) j), rw e (drop-append-add route (drop k before) j ∙ drop-drop j k before))
 
 -- a route has fewer arcs than there are nodes
-short : {n m : ℕ} {R : Rows} (keep : ℕ → Bool) {N : Net} {s t places : ℕ} → Lent n m R s t places → Alike N (kept keep (network m R))
+short :
+    {n m : ℕ} {R : Rows} (keep : ℕ → Bool) {N : Net} {s t : ℕ} (before : List ℕ) → Lent n m R s t (length before) → Alike N (kept keep (network m R))
     → (d k c : ℕ) (route : List ℕ) → Found N n s t d k c route → length route ≤ n
-short keep l x d k c route f =
-    let g = found-alike x f in
-    omega (arith, route-count (g .best) (g .route), best-limits (l .sound) {keep = keep} (l .source-low) (l .source-high) (g .best) .0)
+short {n} {m} {R} keep {N} {s} {t} before l x d k c route f = elim (either (searchOf R keep n m t s .found)) [
+  | inl e ↦
+      let a = search-found (l .sound) (l .source-low) (l .source-high) t e before (l .room) in
+      omega (arith, ap length (found-unique (found-alike x f) (a .found) .route), a .count, a .few)
+  | inr e ↦ absurd (not-both (found-alike x f) (search-missed (l .sound) (l .source-low) (l .source-high) t e))
+]
 
 module _ {N F : Net} {n s t : ℕ} {before : List ℕ} where
   answers-cut : Alike N F → n ≤ length before → ((d k c : ℕ) (route : List ℕ) → Found N n s t d k c route → length route ≤ n)
@@ -115,7 +121,7 @@ module _ (n m : ℕ) (R : Rows) (s t : ℕ) (before : List ℕ) where
   search-cut says =
       says-cut judged-cut (λ e.
       let l = search-fine n m R s t (length before) e in
-      (network-cut n m R, l .room, short (λ e. true) l (other-way (all-arcs (network m R))))) says
+      (network-cut n m R, l .room, short (λ e. true) before l (other-way (all-arcs (network m R))))) says
 
   module _ (x y boxes : List ℤ) where
     place-cut : (i : ℕ) → 1 ≤ i → i ≤ n → (row : List ℤ) → coordinate (take n row) i ≡ coordinate row i
@@ -153,7 +159,7 @@ module _ (n m : ℕ) (R : Rows) (s t : ℕ) (before : List ℕ) where
     boxed-cut says =
         says-cut boxed-judged-cut (λ e.
         let l = boxed-fine n m R s t (length before) x y boxes e .0 in
-        (holding-cut (l .target-low) (l .target-high), l .room, short _ l (other-way (held-arcs x y boxes t (network m R))))) says
+        (holding-cut (l .target-low) (l .target-high), l .room, short _ before l (other-way (held-arcs x y boxes t (network m R))))) says
 
 -- two calls whose rows agree on the places that are needed have the same reply and write the same
 module _
