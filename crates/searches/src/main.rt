@@ -1,0 +1,91 @@
+// The searches of the hall plan, run through the public functions. A line for each: the reply's number and values, then
+// the arcs of the route.
+use search::Answer;
+use search::search;
+use search::search_boxed;
+
+// Writes a number and a space.
+fn put(number: u32) {
+    let mut bytes = [b' '; 11];
+    let mut rest = number;
+    let mut at: usize = 10;
+    while 0 < at {
+        at -= 1;
+        bytes[at] = b'0' + (rest % 10) as u8;
+        rest = rest / 10;
+        if rest == 0 {
+            break;
+        }
+    }
+    io::write_all(1, &bytes[at..]);
+}
+
+// Writes the first numbers of a route.
+fn put_route(arcs: u32, route: &[u32]) {
+    let mut i = 0;
+    while i < route.len() {
+        if i < arcs as usize {
+            put(route[i]);
+        }
+        i += 1;
+    }
+}
+
+fn show(answer: Answer, route: &[u32]) {
+    match answer {
+        Answer::Found { length, arcs, settled } => {
+            put(0);
+            put(length);
+            put(arcs);
+            put(settled);
+            put_route(arcs, route);
+        }
+        Answer::Refused(r) => {
+            put(r.number());
+            put(r.place());
+        }
+    }
+    io::write_all(1, b"\n");
+}
+
+fn main() {
+    let tails = [1u32, 2, 1, 3, 1, 4];
+    let heads = [2u32, 3, 3, 4, 4, 1];
+    let weights = [3u32, 2, 5, 1, 9, 4];
+    let x = [0i32, 10, 10, -5];
+    let y = [0i32, 0, 5, 20];
+    let boxes = [
+        -5i32, 10, 0, 20, -5, 10, 0, 20, -5, 10, 5, 20, -5, 10, 0, 20, -5, -5, 20, 20, 0, 10, 0, 5,
+    ];
+    let mut route = [0u32; 4];
+    let a = search_boxed(
+        4, 6, &tails, &heads, &weights, &x, &y, &boxes, 1, 4, &mut route,
+    );
+    show(a, &route);
+    let b = search_boxed(
+        4, 6, &tails, &heads, &weights, &x, &y, &boxes, 1, 2, &mut route,
+    );
+    show(b, &route);
+    let c = search_boxed(
+        4, 6, &tails, &heads, &weights, &x, &y, &boxes, 4, 2, &mut route,
+    );
+    show(c, &route);
+    let d = search(4, 6, &tails, &heads, &weights, 1, 1, &mut route);
+    show(d, &route);
+    let lighter = [3u32, 2, 5, 1, 6, 4];
+    let e = search(4, 6, &tails, &heads, &lighter, 1, 4, &mut route);
+    show(e, &route);
+    let f = search(2, 1, &[2], &[1], &[0], 1, 2, &mut route);
+    show(f, &route);
+    let g = search(
+        3,
+        4,
+        &[1, 2, 1, 2],
+        &[2, 1, 3, 3],
+        &[0, 0, 5, 5],
+        1,
+        3,
+        &mut route,
+    );
+    show(g, &route);
+}
