@@ -1,0 +1,7 @@
+pub mod Accepted
+mod Counting
+mod Fairness
+mod Reading
+mod Replies
+mod RowLaws
+mod Sound

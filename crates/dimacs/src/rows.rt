@@ -1,0 +1,64 @@
+// Numbers of data lines, put into rows that are lent.
+use scan::form::Numbers;
+ghost use mathlib.Core.Path.{_≡_};
+ghost use mathlib.Core.List.{_++_, map};
+ghost use Prim.Native.Nat.{_≤_};
+ghost use lib.ListN.{length, take, drop};
+ghost use Rattle.dimacs.specs.Rows.{naturalOf, integerOf};
+
+// Which number of a line.
+pub enum Column {
+    First,
+    Second,
+    Third,
+}
+
+pub enum Axis {
+    X,
+    Y,
+}
+
+fn natural(ns: Numbers, column: Column) -> u32
+    ensures { λ r. ⌜ r ≡ naturalOf column ns ⌝ }
+{
+    match column {
+        Column::First => ns.first,
+        Column::Second => ns.second,
+        Column::Third => ns.third,
+    }
+}
+
+fn integer(ns: Numbers, axis: Axis) -> i32
+    ensures { λ r. ⌜ r ≡ integerOf axis ns ⌝ }
+{
+    match axis {
+        Axis::X => ns.x,
+        Axis::Y => ns.y,
+    }
+}
+
+// One number of each of the first m lines goes to the front of the row; the rest of it stays.
+pub fn put_naturals(lines: [Numbers; 2048], column: Column, m: usize, row: &mut [u32])
+    requires { ⌜ (m ≤ 2048) × (m ≤ length (now row)) ⌝ }
+    ensures { λ _. ⌜ now (row .exit) ≡ map (naturalOf column) (take m lines) ++ drop m (now (row .entry)) ⌝ }
+{
+    let mut i = 0;
+    while i < m {
+        let ns = lines[i];
+        row[i] = natural(ns, column);
+        i += 1;
+    }
+}
+
+pub fn put_integers(lines: [Numbers; 2048], axis: Axis, m: usize, row: &mut [i32])
+    requires { ⌜ (m ≤ 2048) × (m ≤ length (now row)) ⌝ }
+    ensures { λ _. ⌜ now (row .exit) ≡ map (integerOf axis) (take m lines) ++ drop m (now (row .entry)) ⌝ }
+{
+    let mut i = 0;
+    while i < m {
+        let ns = lines[i];
+        let z = integer(ns, axis);
+        row[i] = z;
+        i += 1;
+    }
+}

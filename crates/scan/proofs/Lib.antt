@@ -1,0 +1,3 @@
+pub mod PieceLaws
+mod NumberLaws
+mod FormLaws

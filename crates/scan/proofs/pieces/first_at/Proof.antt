@@ -1,0 +1,56 @@
+use Prim.Native.Nat.{ℕ, _≤_, _<_, _-_, _+_}
+use mathlib.Core.Path.{_≡_, refl, sym, _∙_}
+use native.Mathlib.Omega.{arith}
+use lib.ListN.{length, getD, drop}
+use Rattle.scan.specs.Pieces.{firstAt}
+use Rattle.scan.proofs.PieceLaws.{first-hit, first-miss, first-end}
+use borrow.Author.Needs.{needs}
+use Rattle.scan.proofs.pieces.first_at.Statement.{statement}
+use Rattle.scan.proofs.pieces.first_at.Tie as tie
+
+abbrev Inv-loop : tie.InvT-loop
+Inv-loop s sep i₀ i = (i ≤ length s) × (firstAt sep s ≡ i + firstAt sep (drop i s))
+
+abbrev μ-loop : tie.MeasureT-loop
+μ-loop s sep i₀ i = length s - i
+
+loop-holds : tie.Need-loop-holds Inv-loop μ-loop
+loop-holds c = search needs
+
+shared-slice-read-if1 : tie.Need-shared-slice-read-if1 Inv-loop μ-loop
+shared-slice-read-if1 c = search needs
+
+returns : tie.Need-returns Inv-loop μ-loop
+returns c =
+    let l = c .before .before .before in
+    omega (arith, first-hit (l .before .args .sep) (l .before .args .s .now) (l .loop .i) (c .before .before .loop-test .taken) (c .if1 .taken))
+
+add-i : tie.Need-add-i Inv-loop μ-loop
+add-i c = search needs
+
+loop-less : tie.Need-loop-less Inv-loop μ-loop
+loop-less c = search needs
+
+loop-again : tie.Need-loop-again Inv-loop μ-loop
+loop-again c =
+    let l = c .before .before .before in
+    omega (arith, first-miss (l .before .args .sep) (l .before .args .s .now) (l .loop .i) (c .before .before .loop-test .taken) (c .if1 .left))
+
+returns-2 : tie.Need-returns-2 Inv-loop μ-loop
+returns-2 c =
+    let l = c .before in
+    omega (arith, first-end (l .before .args .sep) (l .before .args .s .now) (l .loop .i) (c .loop-test .left))
+
+pub first-at-spec : {M : Type 1} → statement M
+first-at-spec =
+    tie.close
+    (tie.spec
+    Inv-loop
+    μ-loop
+    loop-holds
+    shared-slice-read-if1
+    returns
+    add-i
+    loop-less
+    loop-again
+    returns-2)

@@ -1,0 +1,47 @@
+-- How the code holds numbers: what is beyond 10,000,000 is held as 10,000,000. No public statement cites this;
+-- two lines that are held alike are judged alike (dimacs). Assumes nothing: these are definitions.
+use Prim.Native.Nat.{ℕ, min}
+use lib.IntN.{ℤ, pos, negsuc}
+use Rattle.scan.specs.declared.numbers.Natural.{Natural}
+use Rattle.scan.specs.declared.numbers.Natural.the-variants.{Number, NoNumber}
+use Rattle.scan.specs.declared.numbers.Integer.{Integer}
+use Rattle.scan.specs.declared.numbers.Integer.the-variants.{Whole, NoWhole}
+use Rattle.scan.specs.declared.form.Numbers.{Numbers}
+use Rattle.scan.specs.declared.form.Field.{Field}
+use Rattle.scan.specs.declared.form.Field.the-variants.{Taken, NotTaken}
+use Rattle.scan.specs.declared.form.Fields.{Fields}
+use Rattle.scan.specs.declared.form.Fields.the-variants.{Read, Unread}
+use Rattle.scan.specs.declared.form.Line.{Line}
+use Rattle.scan.specs.declared.form.Line.the-variants.{Comment, Problem, Data, Faulty}
+
+unfoldable pub held : ℕ → ℕ
+held v = min v 10_000_000
+
+unfoldable pub heldZ : ℤ → ℤ
+heldZ (pos v) = pos (min v 10_000_000)
+heldZ (negsuc v) = negsuc (min v 9_999_999)
+
+unfoldable pub heldNatural : Natural → Natural
+heldNatural (Number v) = Number (held v)
+heldNatural NoNumber = NoNumber
+
+unfoldable pub heldInteger : Integer → Integer
+heldInteger (Whole z) = Whole (heldZ z)
+heldInteger NoWhole = NoWhole
+
+abbrev pub heldNumbers : Numbers → Numbers
+heldNumbers ns = record { first = held (ns .first); second = held (ns .second); third = held (ns .third); x = heldZ (ns .x); y = heldZ (ns .y) }
+
+unfoldable pub heldField : Field → Field
+heldField (Taken ns) = Taken (heldNumbers ns)
+heldField NotTaken = NotTaken
+
+unfoldable pub heldFields : Fields → Fields
+heldFields (Read ns) = Read (heldNumbers ns)
+heldFields (Unread f) = Unread f
+
+unfoldable pub heldLine : Line → Line
+heldLine Comment = Comment
+heldLine (Problem ns) = Problem (heldNumbers ns)
+heldLine (Data ns) = Data (heldNumbers ns)
+heldLine (Faulty f) = Faulty f
