@@ -8,16 +8,17 @@ use search::search_boxed;
 fn put(number: u32) {
     let mut bytes = [b' '; 11];
     let mut rest = number;
+    let mut first: usize = 9;
     let mut at: usize = 10;
     while 0 < at {
         at -= 1;
         bytes[at] = b'0' + (rest % 10) as u8;
-        rest = rest / 10;
-        if rest == 0 {
-            break;
+        if 0 < rest {
+            first = at;
         }
+        rest = rest / 10;
     }
-    io::write_all(1, &bytes[at..]);
+    io::write_all(1, &bytes[first..]);
 }
 
 // Writes the first numbers of a route.
@@ -33,7 +34,11 @@ fn put_route(arcs: u32, route: &[u32]) {
 
 fn show(answer: Answer, route: &[u32]) {
     match answer {
-        Answer::Found { length, arcs, settled } => {
+        Answer::Found {
+            length,
+            arcs,
+            settled,
+        } => {
             put(0);
             put(length);
             put(arcs);
@@ -55,19 +60,72 @@ fn main() {
     let x = [0i32, 10, 10, -5];
     let y = [0i32, 0, 5, 20];
     let boxes = [
-        -5i32, 10, 0, 20, -5, 10, 0, 20, -5, 10, 5, 20, -5, 10, 0, 20, -5, -5, 20, 20, 0, 10, 0, 5,
+        -5i32,
+        10,
+        0,
+        20,
+        -5,
+        10,
+        0,
+        20,
+        -5,
+        10,
+        5,
+        20,
+        -5,
+        10,
+        0,
+        20,
+        -5,
+        -5,
+        20,
+        20,
+        0,
+        10,
+        0,
+        5,
     ];
     let mut route = [0u32; 4];
     let a = search_boxed(
-        4, 6, &tails, &heads, &weights, &x, &y, &boxes, 1, 4, &mut route,
+        4,
+        6,
+        &tails,
+        &heads,
+        &weights,
+        &x,
+        &y,
+        &boxes,
+        1,
+        4,
+        &mut route,
     );
     show(a, &route);
     let b = search_boxed(
-        4, 6, &tails, &heads, &weights, &x, &y, &boxes, 1, 2, &mut route,
+        4,
+        6,
+        &tails,
+        &heads,
+        &weights,
+        &x,
+        &y,
+        &boxes,
+        1,
+        2,
+        &mut route,
     );
     show(b, &route);
     let c = search_boxed(
-        4, 6, &tails, &heads, &weights, &x, &y, &boxes, 4, 2, &mut route,
+        4,
+        6,
+        &tails,
+        &heads,
+        &weights,
+        &x,
+        &y,
+        &boxes,
+        4,
+        2,
+        &mut route,
     );
     show(c, &route);
     let d = search(4, 6, &tails, &heads, &weights, 1, 1, &mut route);
