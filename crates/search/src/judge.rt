@@ -23,7 +23,7 @@ fn judge_sizes(n: u32, m: u32) -> Judged
     ensures { λ r. ⌜ r ≡ sizes n m ⌝ }
 {
     unless(
-        (1 <= n) & (n <= 512) & (m <= 2048),
+        (1 <= n) & (n <= rules::NODES) & (m <= rules::ARCS),
         Refusal::BeyondLimits { line: 0 },
     )
 }
@@ -48,7 +48,7 @@ pub fn box_rows_long(n: u32, m: u32, x: &[i32], y: &[i32], boxes: &[i32]) -> boo
 fn good_arc(n: u32, tail: u32, head: u32, weight: u32) -> bool
     ensures { λ r. ⌜ r ≡ goodArc n tail head weight ⌝ }
 {
-    (1 <= tail) & (tail <= n) & (1 <= head) & (head <= n) & (weight <= 1000000)
+    (1 <= tail) & (tail <= n) & (1 <= head) & (head <= n) & (weight <= rules::WEIGHT)
 }
 
 // Refusal 8 of the lowest arc of 1..m that has a bad node or weight.
