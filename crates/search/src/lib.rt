@@ -34,6 +34,7 @@ pub fn search(
 {
     let j = judge::judge_search(n, m, tails, heads, weights, s, t, route.len());
     let Judged::Refused(r) = j else {
+        // of no arc is a box asked
         let boxes = [0i32; 1];
         return find::find(
             n as usize,
