@@ -3,8 +3,11 @@ use Prim.Native.Nat.{ℕ, _-_}
 use mathlib.Core.Path.{_≡_, refl, sym, ap, _∙_}
 use mathlib.Core.List.{List, [], _∷_}
 use lib.ListN.{getD}
+use native.Mathlib.Omega.{arith}
 use Rattle.rules.specs.declared.Refusal.{Refusal}
 use Rattle.rules.specs.declared.Refusal.the-variants.{TextTooLong, RowTooShort, NoForm, OutOfOrder, BeyondLimits, CountsDisagree, NodeAgain, BadArc, BadCoordinate, BadBox, NotInNetwork, NoWalk, BoxMisses}
+use Rattle.rules.specs.declared.Judged.{Judged}
+use Rattle.rules.specs.declared.Judged.the-variants.{Fine, Refused}
 
 -- A reply as the paper has it: a number and values. 0 with the results where a call is accepted, else the refusal's number with its values.
 pub record Reply : Type 0 where
@@ -41,6 +44,11 @@ placeOf r = firstOr0 (refusal r .values)
 -- a call that is accepted, with its results
 abbrev pub accepted : List ℕ → Reply
 accepted results = record { number = 0; values = results }
+
+-- a step that only judges
+abbrev pub judgedReply : Judged → Reply
+judgedReply Fine = accepted []
+judgedReply (Refused r) = refusal r
 
 -- ---- No two refusals have the same number and values
 
@@ -81,5 +89,27 @@ named-back NotInNetwork = refl
 named-back (NoWalk settled) = refl
 named-back (BoxMisses arc node) = refl
 
+-- and none has the number of an accepted call
+pub refusal-nonzero : (r : Refusal) → 0 ≡ refusal r .number → ⊥
+refusal-nonzero TextTooLong e = omega arith
+refusal-nonzero RowTooShort e = omega arith
+refusal-nonzero (NoForm line) e = omega arith
+refusal-nonzero (OutOfOrder line) e = omega arith
+refusal-nonzero (BeyondLimits line) e = omega arith
+refusal-nonzero (CountsDisagree line) e = omega arith
+refusal-nonzero (NodeAgain line) e = omega arith
+refusal-nonzero (BadArc arc) e = omega arith
+refusal-nonzero (BadCoordinate node) e = omega arith
+refusal-nonzero (BadBox arc) e = omega arith
+refusal-nonzero NotInNetwork e = omega arith
+refusal-nonzero (NoWalk settled) e = omega arith
+refusal-nonzero (BoxMisses arc node) e = omega arith
+
 pub refusal-injective : (a b : Refusal) → refusal a ≡ refusal b → a ≡ b
 refusal-injective a b e = sym (named-back a) ∙ (ap (λ (x : Reply). named (x .number) (x .values)) e ∙ named-back b)
+
+pub judged-injective : (a b : Judged) → judgedReply a ≡ judgedReply b → a ≡ b
+judged-injective Fine Fine e = refl
+judged-injective Fine (Refused r) e = absurd (refusal-nonzero r (ap (λ (x : Reply). x .number) e))
+judged-injective (Refused r) Fine e = absurd (refusal-nonzero r (ap (λ (x : Reply). x .number) (sym e)))
+judged-injective (Refused a) (Refused b) e = ap Refused (refusal-injective a b e)

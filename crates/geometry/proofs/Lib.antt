@@ -1,0 +1,5 @@
+pub mod Order
+pub mod Signed
+pub mod Tests
+pub mod SmallestLaws
+pub mod RowLaws

@@ -1,0 +1,3 @@
+pub mod Box
+pub mod Hull
+pub mod Row
