@@ -1,7 +1,7 @@
 -- An accepted text's rows satisfy all limits, so that refusals 5, 8 and 9 of the other parts cannot follow a reading. Assumes nothing.
 use mathlib.Core.Path.{_≡_, refl, sym, ap, _∙_}
 use mathlib.Core.List.{List, [], _∷_, _++_, map}
-use mathlib.Core.Bool.{Bool, true, false, _&&_}
+use mathlib.Core.Bool.{true, _&&_}
 use Prim.Native.Nat.{ℕ, zero, suc, _+_, _≤_, _<_}
 use native.Mathlib.Nat.{le-of-suc-le-suc}
 use native.Mathlib.Omega.{arith}
@@ -10,12 +10,11 @@ use lib.IntN.{ℤ, pos}
 use lib.ListN.{length, getD, drop}
 use lib.Signed.{leZ, leZ-yes, _≤ℤ_}
 use borrow.Author.Tests.{leb-true}
-use Rattle.rules.specs.Paper.{Reply, refusal, accepted}
+use Rattle.rules.specs.Paper.{Reply, refusal, accepted, refusal-nonzero}
 use Rattle.rules.specs.Limits.{mostNodes, longestText}
 use Rattle.rules.specs.Judging.{orElse, passes}
 use Rattle.rules.specs.declared.Refusal.{Refusal}
-use Rattle.rules.specs.declared.Refusal.the-variants.{TextTooLong, RowTooShort, NoForm, OutOfOrder, BeyondLimits, CountsDisagree, NodeAgain, BadArc, BadCoordinate, BadBox, NotInNetwork, NoWalk, BoxMisses}
-use Rattle.rules.specs.declared.Judged.{Judged}
+use Rattle.rules.specs.declared.Refusal.the-variants.{TextTooLong, RowTooShort, BeyondLimits}
 use Rattle.rules.specs.declared.Judged.the-variants.{Fine}
 use Rattle.scan.specs.Fields.{none}
 use Rattle.scan.specs.declared.fields.Numbers.{Numbers}
@@ -29,26 +28,11 @@ use Rattle.dimacs.specs.declared.format.Format.the-variants.{Graph, Coor
 use Rattle.dimacs.specs.declared.rows.Column.the-variants.{First, Second, Third}
 use Rattle.dimacs.specs.declared.rows.Axis.the-variants.{X, Y}
 use Rattle.dimacs.proofs.Fairness.{both, or-fine, passes-fine, Inside, inside}
-use Rattle.dimacs.proofs.Sound.{Sound, Entry, sound, onward}
+use Rattle.dimacs.proofs.Sound.{sound, onward}
 
--- no refusal has the number of an acceptance
-refusal-some : (r : Refusal) → 1 ≤ refusal r .number
-refusal-some TextTooLong = omega arith
-refusal-some RowTooShort = omega arith
-refusal-some (NoForm k) = omega arith
-refusal-some (OutOfOrder k) = omega arith
-refusal-some (BeyondLimits k) = omega arith
-refusal-some (CountsDisagree k) = omega arith
-refusal-some (NodeAgain k) = omega arith
-refusal-some (BadArc k) = omega arith
-refusal-some (BadCoordinate k) = omega arith
-refusal-some (BadBox k) = omega arith
-refusal-some NotInNetwork = omega arith
-refusal-some (NoWalk k) = omega arith
-refusal-some (BoxMisses k j) = omega arith
-
+-- no refusal is an acceptance
 pub not-accepted : (r : Refusal) (results : List ℕ) → refusal r ≡ accepted results → ⊥
-not-accepted r results e = let z : refusal r .number ≡ 0 = ap (λ (x : Reply). x .number) e in omega (arith, refusal-some r)
+not-accepted r results e = refusal-nonzero r (sym (ap (λ (x : Reply). x .number) e))
 
 -- what stands in front of a row
 front : {A : Type 0} (f : Numbers → A) (lines : List Numbers) (old : List A) (i : ℕ) (d : A) → i < length lines → getD (map f lines ++ old) i d ≡ f (getD lines i none)

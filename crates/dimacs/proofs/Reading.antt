@@ -1,6 +1,6 @@
 -- Laws of reading a text line by line, for any format. Assumes nothing.
 use mathlib.Core.Path.{_≡_, refl, sym, ap, _∙_}
-use mathlib.Core.List.{List, [], _∷_}
+use mathlib.Core.List.{List}
 use mathlib.Core.Bool.{Bool, true, false, cond}
 use Prim.Native.Nat.{ℕ, _+_, _-_, _≤_, _<_}
 use native.Mathlib.Nat.{add-assoc}
@@ -15,16 +15,16 @@ use Rattle.scan.specs.Fields.{none}
 use Rattle.scan.specs.Held.{heldLine}
 use Rattle.scan.specs.declared.fields.Numbers.{Numbers}
 use Rattle.scan.specs.declared.line.Line.{Line}
-use Rattle.scan.specs.declared.line.Line.the-variants.{Comment, Problem, Data, Faulty}
+use Rattle.scan.specs.declared.line.Line.the-variants.{Problem, Data}
 use Rattle.scan.proofs.PieceLaws.{lines-step}
 use Rattle.dimacs.specs.Formats.{formatLine, rulesOf}
 use Rattle.dimacs.specs.Judgement.{judged, ended}
-use Rattle.dimacs.specs.Texts.{Outcome, read, refused, State, start, place, next, onJudged, readLines, readText}
+use Rattle.dimacs.specs.Texts.{Outcome, read, refused, State, place, next, onJudged, readLines, readText}
 use Rattle.dimacs.specs.Fair.{Fair, FormatFair}
 use Rattle.dimacs.specs.declared.format.Rules.{Rules}
 use Rattle.dimacs.specs.declared.format.Format.{Format}
 use Rattle.dimacs.specs.declared.judge.Head.{Head}
-use Rattle.dimacs.proofs.Fairness.{fair-of, inside, once-in, judged-held, fine-held, ProblemFine, problem-fine, DataFine, data-fine}
+use Rattle.dimacs.proofs.Fairness.{fair-of, inside, once-in, judged-held, fine-held, problem-fine, DataFine, data-fine}
 
 -- what holds at a line's start: `at` bytes are read, the line is line k, and the state is s
 pub record Going (F : Format) (text : List ℕ) (s : State) (at k : ℕ) : Type 0 where

@@ -1,6 +1,6 @@
 -- The rows that are lent, after reading. Assumes nothing: these are definitions.
 use Prim.Native.Nat.{ℕ}
-use mathlib.Core.List.{List, [], _∷_, _++_, map}
+use mathlib.Core.List.{List, _++_, map}
 use lib.IntN.{ℤ}
 use lib.ListN.{drop}
 use Rattle.scan.specs.declared.fields.Numbers.{Numbers}

@@ -1,12 +1,12 @@
 -- Laws of the fields of a line, as they are read from left to right. Assumes nothing.
 use mathlib.Core.Path.{_≡_, refl, sym, ap, _∙_}
-use mathlib.Core.Logic.{_⊎_, inl, inr, ⊎-elim}
+use mathlib.Core.Logic.{_⊎_, ⊎-elim}
 use mathlib.Core.List.{List, [], _∷_}
 use mathlib.Core.Bool.{Bool, true, false, cond, _&&_}
-use Prim.Native.Nat.{ℕ, suc, _+_, _-_, _≤_, _<_, min}
-use native.Mathlib.Nat.{le-of-eq, eq-or-lt-of-le, add-assoc}
+use Prim.Native.Nat.{ℕ, _+_, _-_, _≤_, _<_}
+use native.Mathlib.Nat.{eq-or-lt-of-le}
 use native.Mathlib.Omega.{arith}
-use lib.Dec.{eqb, leb, ltb}
+use lib.Dec.{leb, ltb}
 use lib.IntN.{ℤ, pos, negsuc}
 use lib.ListN.{length, getD, take, drop, length-drop}
 use lib.Seq.{drop-drop, length-take-le}
@@ -24,7 +24,7 @@ use Rattle.scan.specs.declared.fields.Kind.the-variants.{Misspelt, Missi
 use Rattle.scan.specs.declared.fields.Field.{Field}
 use Rattle.scan.specs.declared.fields.Field.the-variants.{Taken, NotTaken}
 use Rattle.scan.specs.declared.fields.Fields.{Fields}
-use Rattle.scan.specs.declared.fields.Fields.the-variants.{Read, Unread}
+use Rattle.scan.specs.declared.fields.Fields.the-variants.{Read}
 use Rattle.scan.proofs.PieceLaws.{first-le, fields-cut, fields-one}
 
 -- ---- what is held stays held

@@ -1,10 +1,9 @@
 -- Laws of the lines of a format. Assumes nothing.
-use mathlib.Core.Path.{_≡_, refl, sym, ap, _∙_}
+use mathlib.Core.Path.{_≡_, refl, ap, _∙_}
 use mathlib.Core.List.{List, [], _∷_}
-use mathlib.Core.Bool.{Bool, true, false, cond}
+use mathlib.Core.Bool.{true, false}
 use Prim.Native.Nat.{ℕ}
 use Prim.Native.Char.{code}
-use native.Mathlib.Omega.{arith}
 use lib.ListN.{length, take}
 use borrow.Author.Tests.{eq-eqb, ne-eqb}
 use Rattle.scan.specs.Pieces.{firstAt, firstField, sameBytes, fieldsOf}
@@ -15,7 +14,7 @@ use Rattle.scan.specs.declared.fields.Kind.the-variants.{EmptyLine, NoLe
 use Rattle.scan.specs.declared.fields.Fault.{Fault}
 use Rattle.scan.specs.declared.fields.Fields.{Fields}
 use Rattle.scan.specs.declared.fields.Fields.the-variants.{Read, Unread}
-use Rattle.scan.specs.declared.line.Line.the-variants.{Comment, Problem, Data, Faulty}
+use Rattle.scan.specs.declared.line.Line.the-variants.{Comment}
 
 held-problem : (f : Fields) → problemLine (heldFields f) ≡ heldLine (problemLine f)
 unfolding heldFields heldLine
@@ -35,27 +34,22 @@ pub line-empty : (problem rows s : List ℕ) → length s ≡ 0 → faulty Empty
 unfolding lineOf heldLine
 line-empty problem rows s h = rw (eq-eqb (length s) 0 h)
 
--- the line is not empty, and its first field, which ends at e, is l
-module _ (problem rows s l : List ℕ) (e : ℕ) (some : length s ≡ 0 → ⊥) (ee : e ≡ firstAt 32 s) (el : l ≡ take e s) where
-  letter : l ≡ firstField s
-  letter = el ∙ ap (λ (n : ℕ). take n s) ee
+-- a first field, which ends at e
+pub first-field : (s l : List ℕ) (e : ℕ) → e ≡ firstAt 32 s → l ≡ take e s → l ≡ firstField s
+first-field s l e ee el = el ∙ ap (λ (n : ℕ). take n s) ee
 
+-- the line is not empty, and its first field is l
+module _ (problem rows s l : List ℕ) (some : length s ≡ 0 → ⊥) (letter : l ≡ firstField s) where
   pub line-comment : sameBytes l (code "c" ∷ []) ≡ true → Comment ≡ heldLine (lineOf problem rows s)
   unfolding lineOf heldLine
   line-comment t = rw (ne-eqb (length s) 0 some, ← letter, t)
 
-  module _ (not-c : sameBytes l (code "c" ∷ []) ≡ false) (p : List ℕ) (d : ℕ) (ed : d ≡ firstAt 32 problem) (ep : p ≡ take d problem) where
-    letter-p : p ≡ firstField problem
-    letter-p = ep ∙ ap (λ (n : ℕ). take n problem) ed
-
+  module _ (not-c : sameBytes l (code "c" ∷ []) ≡ false) (p : List ℕ) (letter-p : p ≡ firstField problem) where
     pub line-problem : (f : Fields) → sameBytes l p ≡ true → f ≡ heldFields (matched (fieldsOf problem) 1 (fieldsOf s) none) → problemLine f ≡ heldLine (lineOf problem rows s)
     unfolding lineOf
     line-problem f t h = rw (ne-eqb (length s) 0 some, ← letter, ← letter-p, not-c, t, h) (held-problem _)
 
-    module _ (not-p : sameBytes l p ≡ false) (q : List ℕ) (k : ℕ) (ek : k ≡ firstAt 32 rows) (eq : q ≡ take k rows) where
-      letter-q : q ≡ firstField rows
-      letter-q = eq ∙ ap (λ (n : ℕ). take n rows) ek
-
+    module _ (not-p : sameBytes l p ≡ false) (q : List ℕ) (letter-q : q ≡ firstField rows) where
       pub line-data : (f : Fields) → sameBytes l q ≡ true → f ≡ heldFields (matched (fieldsOf rows) 1 (fieldsOf s) none) → dataLine f ≡ heldLine (lineOf problem rows s)
       unfolding lineOf
       line-data f t h = rw (ne-eqb (length s) 0 some, ← letter, ← letter-p, ← letter-q, not-c, not-p, t, h) (held-data _)

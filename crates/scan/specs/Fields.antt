@@ -2,7 +2,7 @@
 use Prim.Native.Nat.{ℕ, _+_, _-_}
 use Prim.Native.Char.{code}
 use mathlib.Core.List.{List, [], _∷_}
-use mathlib.Core.Bool.{Bool, true, false, cond, _&&_}
+use mathlib.Core.Bool.{cond, _&&_}
 use lib.Dec.{leb}
 use lib.IntN.{ℤ, pos}
 use lib.ListN.{length, getD}

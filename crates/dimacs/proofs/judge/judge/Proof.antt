@@ -1,5 +1,5 @@
-use mathlib.Core.Path.{_≡_, sym, ap, _∙_}
-use Rattle.dimacs.specs.Judgement.{problemJudged, dataJudged, judged, ended}
+use mathlib.Core.Path.{sym, ap, _∙_}
+use Rattle.dimacs.specs.Judgement.{judged}
 use borrow.Author.Needs.{needs}
 use Rattle.dimacs.proofs.judge.judge.Statement.{statement}
 use Rattle.dimacs.proofs.judge.judge.Tie as tie

@@ -1,6 +1,6 @@
-use mathlib.Core.Path.{_≡_, sym, ap, _∙_}
+use mathlib.Core.Path.{sym, _∙_}
 use borrow.Author.Tests.{not-true, not-false, lt-ltb, le-ltb}
-use Rattle.dimacs.specs.Judgement.{problemJudged, dataJudged, judged, ended}
+use Rattle.dimacs.specs.Judgement.{dataJudged}
 use Rattle.dimacs.proofs.Fairness.{once-in}
 use borrow.Author.Needs.{needs}
 use Rattle.dimacs.proofs.judge.judge_data.Statement.{statement}

@@ -1,4 +1,4 @@
-use Rattle.dimacs.specs.Judgement.{problemJudged, dataJudged, judged, ended}
+use Rattle.dimacs.specs.Judgement.{ended}
 use Rattle.dimacs.proofs.judge.judge_end.Statement.{statement}
 use Rattle.dimacs.proofs.judge.judge_end.Tie as tie
 

@@ -1,10 +1,9 @@
 use Rattle.scan.proofs.PieceLaws.{rest-long}
-use Prim.Native.Nat.{ℕ, _-_, _≤_}
-use mathlib.Core.Path.{_≡_, refl, sym, ap, _∙_}
+use Prim.Native.Nat.{_-_}
+use mathlib.Core.Path.{sym, ap, _∙_}
 use native.Mathlib.Omega.{arith}
-use lib.ListN.{length, take}
-use Rattle.rules.specs.declared.Judged.{Judged}
-use Rattle.dimacs.specs.Texts.{onJudged, next}
+use lib.ListN.{length}
+use Rattle.dimacs.specs.Texts.{next}
 use Rattle.dimacs.proofs.Fairness.{fair-of}
 use Rattle.dimacs.proofs.Reading.{Going, Turn, state, going-start, line-out, line-kept, line-problem, data-low, data-room, data-place, line-data, text-end, judged-out}
 use borrow.Author.Needs.{needs}

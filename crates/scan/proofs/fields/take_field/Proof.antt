@@ -1,8 +1,8 @@
 use mir.Syntax.{w32}
 use mir.Val.{toZ, ofZ}
 use mathlib.Core.Path.{_≡_, sym, ap, _∙_}
-use mathlib.Core.Bool.{Bool, true, false}
-use Rattle.scan.specs.Fields.{takenInteger, takenNatural, oneInteger, oneNatural}
+use mathlib.Core.Bool.{true, false}
+use Rattle.scan.specs.Fields.{takenInteger, takenNatural, oneInteger}
 use Rattle.scan.specs.declared.fields.Field.the-variants.{Taken}
 use Rattle.scan.proofs.FieldLaws.{field-integer, field-natural, field-word}
 use borrow.Author.Needs.{needs}

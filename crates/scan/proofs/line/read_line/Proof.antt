@@ -1,13 +1,14 @@
-use mathlib.Core.Path.{_≡_, sym, ap, _∙_}
+use mathlib.Core.Path.{sym, ap, _∙_}
 use Rattle.scan.specs.Line.{problemLine}
-use Rattle.scan.proofs.LineLaws.{handed-on, line-empty, line-comment, line-problem, line-data, line-none}
+use Rattle.scan.proofs.LineLaws.{handed-on, first-field, line-empty, line-comment, line-problem, line-data, line-none}
 use borrow.Author.Needs.{needs}
 use Rattle.scan.proofs.line.read_line.Statement.{statement}
 use Rattle.scan.proofs.line.read_line.Tie as tie
 
 returns : tie.Need-returns
 returns c =
-    (line-empty (c .before .before .before .before .args .problem .now) (c .before .before .before .before .args .data .now) (c .before .before .before .before .args .s .now) (c .if1 .taken))
+    let args = c .before .before .before .before .args in
+    line-empty (args .problem .now) (args .data .now) (args .s .now) (c .if1 .taken)
 
 first-at-requires : tie.Need-first-at-requires
 first-at-requires c κs = search needs
@@ -23,7 +24,10 @@ same-bytes-requires c κs = search needs
 
 returns-2 : tie.Need-returns-2
 returns-2 c =
-    (line-comment (c .before .before .before .before .before .before .before .before .before .args .problem .now) (c .before .before .before .before .before .before .before .before .before .args .data .now) (c .before .before .before .before .before .before .before .before .before .args .s .now) _ _ (c .before .before .before .before .before .if1 .left) (c .before .before .before .before .first-at .ensures .0) (c .before .before .before .front .ensures) (sym (c .before .same-bytes .ensures) ∙ c .if2 .taken))
+    let args = c .before .before .before .before .before .before .before .before .before .args in
+    let a = c .before in
+    let letter = first-field _ _ _ (a .before .before .before .first-at .ensures .0) (a .before .before .front .ensures) in
+    line-comment (args .problem .now) (args .data .now) (args .s .now) _ (a .before .before .before .before .if1 .left) letter (sym (a .same-bytes .ensures) ∙ c .if2 .taken)
 
 first-at-requires-2 : tie.Need-first-at-requires-2
 first-at-requires-2 c κs = search needs
@@ -48,13 +52,23 @@ data-line-requires c κs = search needs
 
 returns-3 : tie.Need-returns-3
 returns-3 c =
-    c .data-line .ensures ∙ handed-on _ _ (c .before .enum-told .given .1)
-    ∙ line-problem (c .before .before .before .before .before .before .before .before .before .before .before .before .before .before .before .before .before .args .problem .now) (c .before .before .before .before .before .before .before .before .before .before .before .before .before .before .before .before .before .args .data .now) (c .before .before .before .before .before .before .before .before .before .before .before .before .before .before .before .before .before .args .s .now) _ _ (c .before .before .before .before .before .before .before .before .before .before .before .before .before .if1 .left) (c .before .before .before .before .before .before .before .before .before .before .before .before .first-at .ensures .0) (c .before .before .before .before .before .before .before .before .before .before .before .front .ensures) (sym (c .before .before .before .before .before .before .before .before .before .same-bytes .ensures) ∙ c .before .before .before .before .before .before .before .before .if2 .left) _ _ (c .before .before .before .before .before .before .before .first-at2 .ensures .0) (c .before .before .before .before .before .before .front2 .ensures) _ (sym (c .before .before .before .before .before .same-bytes2 .ensures) ∙ c .before .before .before .before .if3 .taken) (c .before .before .before .read-fields .ensures)
+    let args = c .before .before .before .before .before .before .before .before .before .before .before .before .before .before .before .before .before .args in
+    let a = c .before .before .before .before .before .before .before .before .before in
+    let letter = first-field _ _ _ (a .before .before .before .first-at .ensures .0) (a .before .before .front .ensures) in
+    let b = c .before .before .before .before .before in
+    let not-c = sym (a .same-bytes .ensures) ∙ c .before .before .before .before .before .before .before .before .if2 .left in
+    let letter-p = first-field _ _ _ (b .before .before .first-at2 .ensures .0) (b .before .front2 .ensures) in
+    c .data-line .ensures ∙ (handed-on _ _ (c .before .enum-told .given .1) ∙ line-problem (args .problem .now) (args .data .now) (args .s .now) _ (a .before .before .before .before .if1 .left) letter not-c _ letter-p _ (sym (b .same-bytes2 .ensures) ∙ c .before .before .before .before .if3 .taken) (c .before .before .before .read-fields .ensures))
 
 returns-4 : tie.Need-returns-4
 returns-4 c =
-    ap problemLine (sym (c .before .f .given .1))
-    ∙ line-problem (c .before .before .before .before .before .before .before .before .before .before .before .before .before .before .before .before .before .args .problem .now) (c .before .before .before .before .before .before .before .before .before .before .before .before .before .before .before .before .before .args .data .now) (c .before .before .before .before .before .before .before .before .before .before .before .before .before .before .before .before .before .args .s .now) _ _ (c .before .before .before .before .before .before .before .before .before .before .before .before .before .if1 .left) (c .before .before .before .before .before .before .before .before .before .before .before .before .first-at .ensures .0) (c .before .before .before .before .before .before .before .before .before .before .before .front .ensures) (sym (c .before .before .before .before .before .before .before .before .before .same-bytes .ensures) ∙ c .before .before .before .before .before .before .before .before .if2 .left) _ _ (c .before .before .before .before .before .before .before .first-at2 .ensures .0) (c .before .before .before .before .before .before .front2 .ensures) _ (sym (c .before .before .before .before .before .same-bytes2 .ensures) ∙ c .before .before .before .before .if3 .taken) (c .before .before .before .read-fields .ensures)
+    let args = c .before .before .before .before .before .before .before .before .before .before .before .before .before .before .before .before .before .args in
+    let a = c .before .before .before .before .before .before .before .before .before in
+    let letter = first-field _ _ _ (a .before .before .before .first-at .ensures .0) (a .before .before .front .ensures) in
+    let b = c .before .before .before .before .before in
+    let not-c = sym (a .same-bytes .ensures) ∙ c .before .before .before .before .before .before .before .before .if2 .left in
+    let letter-p = first-field _ _ _ (b .before .before .first-at2 .ensures .0) (b .before .front2 .ensures) in
+    ap problemLine (sym (c .before .f .given .1)) ∙ line-problem (args .problem .now) (args .data .now) (args .s .now) _ (a .before .before .before .before .if1 .left) letter not-c _ letter-p _ (sym (b .same-bytes2 .ensures) ∙ c .before .before .before .before .if3 .taken) (c .before .before .before .read-fields .ensures)
 
 first-at-requires-3 : tie.Need-first-at-requires-3
 first-at-requires-3 c κs = search needs
@@ -73,12 +87,29 @@ data-line-requires-2 c κs = search needs
 
 returns-5 : tie.Need-returns-5
 returns-5 c =
-    c .data-line2 .ensures
-    ∙ line-data (c .before .before .before .before .before .before .before .before .before .before .before .before .before .before .before .before .before .before .before .args .problem .now) (c .before .before .before .before .before .before .before .before .before .before .before .before .before .before .before .before .before .before .before .args .data .now) (c .before .before .before .before .before .before .before .before .before .before .before .before .before .before .before .before .before .before .before .args .s .now) _ _ (c .before .before .before .before .before .before .before .before .before .before .before .before .before .before .before .if1 .left) (c .before .before .before .before .before .before .before .before .before .before .before .before .before .before .first-at .ensures .0) (c .before .before .before .before .before .before .before .before .before .before .before .before .before .front .ensures) (sym (c .before .before .before .before .before .before .before .before .before .before .before .same-bytes .ensures) ∙ c .before .before .before .before .before .before .before .before .before .before .if2 .left) _ _ (c .before .before .before .before .before .before .before .before .before .first-at2 .ensures .0) (c .before .before .before .before .before .before .before .before .front2 .ensures) (sym (c .before .before .before .before .before .before .before .same-bytes2 .ensures) ∙ c .before .before .before .before .before .before .if3 .left) _ _ (c .before .before .before .before .before .first-at3 .ensures .0) (c .before .before .before .before .front3 .ensures) _ (sym (c .before .before .before .same-bytes3 .ensures) ∙ c .before .before .if4 .taken) (c .before .read-fields2 .ensures)
+    let args = c .before .before .before .before .before .before .before .before .before .before .before .before .before .before .before .before .before .before .before .args in
+    let a = c .before .before .before .before .before .before .before .before .before .before .before in
+    let letter = first-field _ _ _ (a .before .before .before .first-at .ensures .0) (a .before .before .front .ensures) in
+    let b = c .before .before .before .before .before .before .before in
+    let not-c = sym (a .same-bytes .ensures) ∙ c .before .before .before .before .before .before .before .before .before .before .if2 .left in
+    let letter-p = first-field _ _ _ (b .before .before .first-at2 .ensures .0) (b .before .front2 .ensures) in
+    let d = c .before .before .before in
+    let not-p = sym (b .same-bytes2 .ensures) ∙ c .before .before .before .before .before .before .if3 .left in
+    let letter-q = first-field _ _ _ (d .before .before .first-at3 .ensures .0) (d .before .front3 .ensures) in
+    c .data-line2 .ensures ∙ line-data (args .problem .now) (args .data .now) (args .s .now) _ (a .before .before .before .before .if1 .left) letter not-c _ letter-p not-p _ letter-q _ (sym (d .same-bytes3 .ensures) ∙ c .before .before .if4 .taken) (c .before .read-fields2 .ensures)
 
 returns-6 : tie.Need-returns-6
 returns-6 c =
-    (line-none (c .before .before .before .before .before .before .before .before .before .before .before .before .before .before .before .before .before .args .problem .now) (c .before .before .before .before .before .before .before .before .before .before .before .before .before .before .before .before .before .args .data .now) (c .before .before .before .before .before .before .before .before .before .before .before .before .before .before .before .before .before .args .s .now) _ _ (c .before .before .before .before .before .before .before .before .before .before .before .before .before .if1 .left) (c .before .before .before .before .before .before .before .before .before .before .before .before .first-at .ensures .0) (c .before .before .before .before .before .before .before .before .before .before .before .front .ensures) (sym (c .before .before .before .before .before .before .before .before .before .same-bytes .ensures) ∙ c .before .before .before .before .before .before .before .before .if2 .left) _ _ (c .before .before .before .before .before .before .before .first-at2 .ensures .0) (c .before .before .before .before .before .before .front2 .ensures) (sym (c .before .before .before .before .before .same-bytes2 .ensures) ∙ c .before .before .before .before .if3 .left) _ _ (c .before .before .before .first-at3 .ensures .0) (c .before .before .front3 .ensures) (sym (c .before .same-bytes3 .ensures) ∙ c .if4 .left))
+    let args = c .before .before .before .before .before .before .before .before .before .before .before .before .before .before .before .before .before .args in
+    let a = c .before .before .before .before .before .before .before .before .before in
+    let letter = first-field _ _ _ (a .before .before .before .first-at .ensures .0) (a .before .before .front .ensures) in
+    let b = c .before .before .before .before .before in
+    let not-c = sym (a .same-bytes .ensures) ∙ c .before .before .before .before .before .before .before .before .if2 .left in
+    let letter-p = first-field _ _ _ (b .before .before .first-at2 .ensures .0) (b .before .front2 .ensures) in
+    let d = c .before in
+    let not-p = sym (b .same-bytes2 .ensures) ∙ c .before .before .before .before .if3 .left in
+    let letter-q = first-field _ _ _ (d .before .before .first-at3 .ensures .0) (d .before .front3 .ensures) in
+    line-none (args .problem .now) (args .data .now) (args .s .now) _ (a .before .before .before .before .if1 .left) letter not-c _ letter-p not-p _ letter-q (sym (d .same-bytes3 .ensures) ∙ c .if4 .left)
 
 pub read-line-spec : {M : Type 1} → statement M
 read-line-spec =
