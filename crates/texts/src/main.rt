@@ -5,9 +5,12 @@ use files::print::count;
 use files::print::text;
 use show::coordinates_of;
 use show::graph_of;
+ghost use Rattle.io.specs.Counts.{Counts};
 
 // The bytes of a file, as many as there are room for.
-fn load(name: &[u8], bytes: &mut [u8]) -> usize {
+fn load(name: &[u8], bytes: &mut [u8]) -> usize
+    ensures { λ r. ⌜ Counts r (now (bytes .exit)) ⌝ }
+{
     let file = os::open_read(name);
     let n = io::read_full(file, bytes);
     libc::close(file);
