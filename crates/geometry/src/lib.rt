@@ -10,6 +10,8 @@ ghost use Rattle.geometry.specs.Box.{holdsB, withinB, wellShapedB};
 ghost use Rattle.geometry.specs.Hull.{smaller, larger, placeBox, grown};
 ghost use Rattle.geometry.specs.Row.{number, boxFrom, putFrom, boxOf, withBox, goodPlace, goodBox};
 use rules::Judged;
+use rules::LEAST_COORDINATE;
+use rules::MOST_COORDINATE;
 use rules::Refusal;
 
 // Whether the box of an arc holds the place (x, y).
@@ -26,7 +28,8 @@ fn good_place(x: &[i32], y: &[i32], at: usize) -> bool
     requires { ⌜ (at < length (now x)) × (at < length (now y)) ⌝ }
     ensures { λ r. ⌜ r ≡ withinB (number (now (x .entry)) at) && withinB (number (now (y .entry)) at) ⌝ }
 {
-    ((-1000000 <= x[at]) & (x[at] <= 1000000)) & ((-1000000 <= y[at]) & (y[at] <= 1000000))
+    ((LEAST_COORDINATE <= x[at]) & (x[at] <= MOST_COORDINATE))
+        & ((LEAST_COORDINATE <= y[at]) & (y[at] <= MOST_COORDINATE))
 }
 
 // Refusal 9 of the lowest node of 1..n with a coordinate beyond the limits.
@@ -55,10 +58,10 @@ fn good_box(boxes: &[i32], at: usize) -> bool
     let right = boxes[at + 1];
     let low = boxes[at + 2];
     let high = boxes[at + 3];
-    ((-1000000 <= left) & (left <= 1000000))
-        & ((-1000000 <= right) & (right <= 1000000))
-        & ((-1000000 <= low) & (low <= 1000000))
-        & ((-1000000 <= high) & (high <= 1000000))
+    ((LEAST_COORDINATE <= left) & (left <= MOST_COORDINATE))
+        & ((LEAST_COORDINATE <= right) & (right <= MOST_COORDINATE))
+        & ((LEAST_COORDINATE <= low) & (low <= MOST_COORDINATE))
+        & ((LEAST_COORDINATE <= high) & (high <= MOST_COORDINATE))
         & (left <= right)
         & (low <= high)
 }

@@ -10,8 +10,10 @@ pub const ARCS: u32 = 2048;
 // The heaviest weight, in tenths of a second; a closed track has it.
 pub const WEIGHT: u32 = 1000000;
 
-// Coordinates run from -COORDINATE to COORDINATE, in millimetres.
-pub const COORDINATE: i32 = 1000000;
+// Coordinates, in millimetres, run from the first to the second.
+pub const LEAST_COORDINATE: i32 = -1000000;
+
+pub const MOST_COORDINATE: i32 = 1000000;
 
 // The longest text, in bytes.
 pub const TEXT: usize = 65536;

@@ -1,3 +1,4 @@
-pub mod PieceLaws
+mod FieldLaws
+mod LineLaws
 pub mod NumberLaws
-mod FormLaws
+pub mod PieceLaws

@@ -1,5 +1,6 @@
 -- The pieces of a text: its lines, and the fields of a line. Assumes nothing: these are definitions.
-use Prim.Native.Nat.{ℕ, zero, suc}
+use Prim.Native.Nat.{ℕ, suc}
+use Prim.Native.Char.{code}
 use mathlib.Core.List.{List, [], _∷_}
 use mathlib.Core.Bool.{Bool, true, false, cond, _&&_}
 use lib.Dec.{eqb}
@@ -17,11 +18,11 @@ pieces sep last (b ∷ t) = cond (eqb b sep) ([] ∷ pieces sep last t) (opening
 
 -- Lines end in byte 10; the last may lack it. A text that ends in byte 10 has no further line.
 abbrev pub linesOf : List ℕ → List (List ℕ)
-linesOf s = pieces 10 [] s
+linesOf s = pieces (code "\n") [] s
 
 -- Fields are separated by exactly one space: two spaces in a row, or one at an end, leave an empty field.
 abbrev pub fieldsOf : List ℕ → List (List ℕ)
-fieldsOf s = pieces 32 ([] ∷ []) s
+fieldsOf s = pieces (code " ") ([] ∷ []) s
 
 -- where the first byte sep of s stands, or the length of s
 unfoldable pub firstAt : ℕ → List ℕ → ℕ
@@ -30,7 +31,7 @@ firstAt sep (b ∷ t) = cond (eqb b sep) 0 (suc (firstAt sep t))
 
 -- the first field: what stands before the first space
 abbrev pub firstField : List ℕ → List ℕ
-firstField s = take (firstAt 32 s) s
+firstField s = take (firstAt (code " ") s) s
 
 -- whether two byte strings are the same
 unfoldable pub sameBytes : List ℕ → List ℕ → Bool

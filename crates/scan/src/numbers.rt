@@ -36,10 +36,10 @@ fn read_digits(s: &[u8]) -> Natural
     let mut i = 0;
     while i < s.len() {
         let b = s[i];
-        if b < 48 {
+        if b < b'0' {
             return Natural::NoNumber;
         }
-        if 57 < b {
+        if b'9' < b {
             return Natural::NoNumber;
         }
         v = longer(v, b);
@@ -59,7 +59,7 @@ pub fn read_natural(s: &[u8]) -> Natural
     if s.len() == 1 {
         return read_digits(s);
     }
-    if b == 48 {
+    if b == b'0' {
         return Natural::NoNumber;
     }
     read_digits(s)
@@ -83,7 +83,7 @@ fn minus(v: u32) -> i32
 pub fn read_integer(s: &[u8]) -> Integer
     ensures { λ r. ⌜ r ≡ heldInteger (integerOf (now (s .entry))) ⌝ }
 {
-    if first_byte(s) == 45 {
+    if first_byte(s) == b'-' {
         let a = read_natural(rest(s, 1));
         let Natural::Number(v) = a else {
             return Integer::NoWhole;

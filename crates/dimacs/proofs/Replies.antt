@@ -1,0 +1,104 @@
+-- Laws of the readers' replies and of the rows that they leave. Assumes nothing.
+use mathlib.Core.Path.{_≡_, sym, _∙_}
+use mathlib.Core.List.{List, _++_, map}
+use mathlib.Core.Bool.{Bool, true, false, _&&_}
+use Prim.Native.Nat.{ℕ, _≤_, _<_}
+use lib.Dec.{leb}
+use lib.IntN.{ℤ}
+use lib.ListN.{length, drop}
+use borrow.Author.Tests.{leb-true, le-leb, lt-leb}
+use Rattle.rules.specs.declared.Refusal.{Refusal}
+use Rattle.rules.specs.declared.Refusal.the-variants.{TextTooLong, RowTooShort, BeyondLimits}
+use Rattle.rules.specs.declared.Judged.{Judged}
+use Rattle.rules.specs.declared.Judged.the-variants.{Fine, Refused}
+use Rattle.scan.specs.declared.fields.Numbers.{Numbers}
+use Rattle.dimacs.specs.Texts.{Outcome, read, refused, onJudged, readText}
+use Rattle.dimacs.specs.Rows.{columnOf, axisOf, row}
+use Rattle.dimacs.specs.Reading.{readGr, grSays, readCo, coSays}
+use Rattle.dimacs.specs.Promise.{GrPromise, CoPromise}
+use Rattle.dimacs.specs.declared.format.Format.the-variants.{Graph, Coordinates}
+use Rattle.dimacs.specs.declared.rows.Column.the-variants.{First, Second, Third}
+use Rattle.dimacs.specs.declared.rows.Axis.the-variants.{X, Y}
+use Rattle.dimacs.specs.declared.GrReply.the-variants.{Read as GrRead, Refused as GrRefused}
+use Rattle.dimacs.specs.declared.CoReply.the-variants.{Read as CoRead, Refused as CoRefused}
+use Rattle.dimacs.proofs.Fairness.{both}
+
+-- the outcome of a text that was judged
+pub fine-outcome : (o p : Outcome) (j : Judged) → onJudged j p ≡ o → j ≡ Fine → o ≡ p
+unfolding onJudged
+fine-outcome o p j e f = sym e ∙ rw f
+
+pub refused-outcome : (o p : Outcome) (j : Judged) (x : Refusal) → onJudged j p ≡ o → j ≡ Refused x → o ≡ refused x
+unfolding onJudged
+refused-outcome o p j x e f = sym e ∙ rw f
+
+-- ---- .gr
+
+module _ (text tails heads weights : List ℕ) where
+  abbrev long : Bool
+  long = leb 2048 (length tails) && leb 2048 (length heads) && leb 2048 (length weights)
+
+  pub gr-too-long : 65536 < length text → readGr text tails heads weights ≡ refused TextTooLong
+  unfolding readGr onJudged
+  gr-too-long h = rw (lt-leb _ _ h)
+
+  pub gr-too-short : length text ≤ 65536 → long ≡ false → readGr text tails heads weights ≡ refused RowTooShort
+  unfolding readGr onJudged
+  gr-too-short h i = rw (le-leb _ _ h, i)
+
+  pub gr-text : length text ≤ 65536 → long ≡ true → readGr text tails heads weights ≡ readText Graph text
+  unfolding readGr onJudged
+  gr-text h i = rw (le-leb _ _ h, i)
+
+  pub gr-out : (r : Refusal) → readGr text tails heads weights ≡ refused r → GrPromise text tails heads weights (GrRefused r) tails heads weights
+  unfolding grSays row
+  gr-out r e = record { reply = rw e; tails-left = rw e; heads-left = rw e; weights-left = rw e }
+
+  pub gr-in : (p : Numbers) (lines : List Numbers) (a b c : List ℕ) → readGr text tails heads weights ≡ read p lines
+      → a ≡ map (columnOf First) lines ++ drop (p .third) tails → b ≡ map (columnOf Second) lines ++ drop (p .third) heads
+      → c ≡ map (columnOf Third) lines ++ drop (p .third) weights → GrPromise text tails heads weights (GrRead (p .second) (p .third)) a b c
+  unfolding grSays row
+  gr-in p lines a b c e f g h = record { reply = rw e; tails-left = rw e f; heads-left = rw e g; weights-left = rw e h }
+
+-- ---- .co
+
+module _ (text : List ℕ) (n : ℕ) (x y : List ℤ) where
+  abbrev wide : Bool
+  wide = leb 512 (length x) && leb 512 (length y)
+
+  pub co-too-long : 65536 < length text → readCo text n x y ≡ refused TextTooLong
+  unfolding readCo onJudged
+  co-too-long h = rw (lt-leb _ _ h)
+
+  pub co-too-short : length text ≤ 65536 → wide ≡ false → readCo text n x y ≡ refused RowTooShort
+  unfolding readCo onJudged
+  co-too-short h i = rw (le-leb _ _ h, i)
+
+  pub co-beyond : length text ≤ 65536 → wide ≡ true → leb 1 n && leb n 512 ≡ false → readCo text n x y ≡ refused (BeyondLimits 0)
+  unfolding readCo onJudged
+  co-beyond h i j = rw (le-leb _ _ h, i, j)
+
+  pub co-text : length text ≤ 65536 → wide ≡ true → leb 1 n && leb n 512 ≡ true → readCo text n x y ≡ readText (Coordinates n) text
+  unfolding readCo onJudged
+  co-text h i j = rw (le-leb _ _ h, i, j)
+
+  pub co-out : (r : Refusal) → readCo text n x y ≡ refused r → CoPromise text n x y (CoRefused r) x y
+  unfolding coSays row
+  co-out r e = record { reply = rw e; x-left = rw e; y-left = rw e }
+
+  pub co-in : (p : Numbers) (lines : List Numbers) (a b : List ℤ) → readCo text n x y ≡ read p lines
+      → a ≡ map (axisOf X) lines ++ drop (p .third) x → b ≡ map (axisOf Y) lines ++ drop (p .third) y → CoPromise text n x y CoRead a b
+  unfolding coSays row
+  co-in p lines a b e f g = record { reply = rw e; x-left = rw e f; y-left = rw e g }
+
+-- ---- there is room
+
+pub gr-room : (tails heads weights : List ℕ) → leb 2048 (length tails) && leb 2048 (length heads) && leb 2048 (length weights) ≡ true
+    → (2048 ≤ length tails) × (2048 ≤ length heads) × (2048 ≤ length weights)
+gr-room tails heads weights e =
+    let d = both (leb 2048 (length tails) && leb 2048 (length heads)) (leb 2048 (length weights)) e in
+    let f = both (leb 2048 (length tails)) (leb 2048 (length heads)) (d .0) in
+    (leb-true _ _ (f .0), leb-true _ _ (f .1), leb-true _ _ (d .1))
+
+pub two-tests : (a b c d : ℕ) → leb a b && leb c d ≡ true → (a ≤ b) × (c ≤ d)
+two-tests a b c d e = let f = both (leb a b) (leb c d) e in (leb-true _ _ (f .0), leb-true _ _ (f .1))

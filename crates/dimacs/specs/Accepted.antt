@@ -1,0 +1,25 @@
+-- What holds of the rows after an accepted text, place by place (a row's places are counted from 0). Assumes nothing: these are definitions.
+use Prim.Native.Nat.{ℕ, _≤_, _<_}
+use mathlib.Core.List.{List}
+use lib.IntN.{ℤ, pos}
+use lib.ListN.{getD}
+use lib.Signed.{_≤ℤ_}
+use Rattle.rules.specs.Limits.{mostNodes, mostArcs, mostWeight, leastCoordinate, mostCoordinate}
+
+-- .gr: n nodes and m arcs, whose tails, heads and weights are within limits
+pub record GrLimits (n m : ℕ) (tails heads weights : List ℕ) : Type 0 where
+  pub some-node : 1 ≤ n
+  pub nodes : n ≤ mostNodes
+  pub arcs : m ≤ mostArcs
+  pub tail-least : (i : ℕ) → i < m → 1 ≤ getD tails i 0
+  pub tail-most : (i : ℕ) → i < m → getD tails i 0 ≤ n
+  pub head-least : (i : ℕ) → i < m → 1 ≤ getD heads i 0
+  pub head-most : (i : ℕ) → i < m → getD heads i 0 ≤ n
+  pub weight : (i : ℕ) → i < m → getD weights i 0 ≤ mostWeight
+
+-- .co: each of the n nodes has its place within limits
+pub record CoLimits (n : ℕ) (x y : List ℤ) : Type 0 where
+  pub x-least : (i : ℕ) → i < n → leastCoordinate ≤ℤ getD x i (pos 0)
+  pub x-most : (i : ℕ) → i < n → getD x i (pos 0) ≤ℤ mostCoordinate
+  pub y-least : (i : ℕ) → i < n → leastCoordinate ≤ℤ getD y i (pos 0)
+  pub y-most : (i : ℕ) → i < n → getD y i (pos 0) ≤ℤ mostCoordinate

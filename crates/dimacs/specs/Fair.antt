@@ -1,0 +1,40 @@
+-- What holds of every format's rules, as the proofs need it. No public statement cites this. Assumes nothing: these are definitions.
+use Prim.Native.Nat.{_≤_, _<_}
+use mathlib.Core.Path.{_≡_}
+use mathlib.Core.Bool.{true}
+use lib.IntN.{ℤ, pos, negsuc}
+use Rattle.scan.specs.declared.fields.Numbers.{Numbers}
+use Rattle.dimacs.specs.declared.format.Limits.{Limits}
+use Rattle.dimacs.specs.declared.format.Rules.{Rules}
+use Rattle.dimacs.specs.declared.format.Format.{Format}
+use Rattle.dimacs.specs.declared.format.Format.the-variants.{Graph, Coordinates}
+
+abbrev pub Small : ℤ → Type 0
+Small (pos v) = v < 9_999_999
+Small (negsuc v) = v < 9_999_999
+
+-- below what is held
+pub record Modest (ns : Numbers) : Type 0 where
+  pub first : ns .first < 10_000_000
+  pub second : ns .second < 10_000_000
+  pub third : ns .third < 10_000_000
+  pub x : Small (ns .x)
+  pub y : Small (ns .y)
+
+pub record ModestLimits (l : Limits) : Type 0 where
+  pub least : Modest (l .least)
+  pub most : Modest (l .most)
+
+pub record Fair (R : Rules) : Type 0 where
+  pub problem : ModestLimits (R .problem)
+  pub entries : ModestLimits (R .entries)
+  pub nodes : R .problem .most .second ≤ 512
+  pub count : R .problem .most .third ≤ 2048
+  pub low : R .once ≡ true → 1 ≤ R .entries .least .third
+  pub high : R .once ≡ true → R .entries .most .third ≤ 2048
+  pub all : R .once ≡ true → R .entries .most .third ≤ R .fewest
+
+-- a graph that has at most 512 nodes
+abbrev pub FormatFair : Format → Type 0
+FormatFair Graph = Unit
+FormatFair (Coordinates n) = n ≤ 512

@@ -1,0 +1,20 @@
+-- The formats. A further one adds its forms and its rules here. Assumes nothing: these are definitions.
+use Prim.Native.Nat.{ℕ}
+use mathlib.Core.List.{List}
+use Rattle.scan.specs.declared.line.Line.{Line}
+use Rattle.scan.specs.declared.fields.Numbers.{Numbers}
+use Rattle.dimacs.specs.Gr.{grLine, grRules}
+use Rattle.dimacs.specs.Co.{coLine, coRules}
+use Rattle.dimacs.specs.declared.format.Format.{Format}
+use Rattle.dimacs.specs.declared.format.Format.the-variants.{Graph, Coordinates}
+use Rattle.dimacs.specs.declared.format.Rules.{Rules}
+
+-- what a line is
+abbrev pub formatLine : Format → List ℕ → Line
+formatLine Graph s = grLine s
+formatLine (Coordinates n) s = coLine s
+
+-- the rules after the problem line
+abbrev pub rulesOf : Format → Numbers → Rules
+rulesOf Graph problem = grRules (problem .second)
+rulesOf (Coordinates n) problem = coRules n

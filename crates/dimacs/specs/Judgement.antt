@@ -1,0 +1,52 @@
+-- The judgement of a line, in the paper's order: 3, 4, 5, 7, 6. Assumes nothing: these are definitions.
+use Prim.Native.Nat.{ℕ, _-_}
+use mathlib.Core.List.{List, [], _∷_}
+use mathlib.Core.Bool.{Bool, false, _&&_, not}
+use lib.Dec.{eqb, leb, ltb}
+use lib.ListN.{getD}
+use Rattle.rules.specs.Judging.{inTurn, passes}
+use Rattle.rules.specs.declared.Refusal.the-variants.{NoForm, OutOfOrder, BeyondLimits, CountsDisagree, NodeAgain}
+use Rattle.rules.specs.declared.Judged.{Judged}
+use Rattle.rules.specs.declared.Judged.the-variants.{Fine, Refused}
+use Rattle.scan.specs.declared.fields.Numbers.{Numbers}
+use Rattle.scan.specs.declared.line.Line.{Line}
+use Rattle.scan.specs.declared.line.Line.the-variants.{Comment, Problem, Data, Faulty}
+use Rattle.dimacs.specs.Rules.{within}
+use Rattle.dimacs.specs.declared.format.Rules.{Rules}
+use Rattle.dimacs.specs.declared.judge.Head.{Head}
+
+-- a problem line, at line k: a second one is 4, limits are 5, counts that disagree 6
+unfoldable pub problemJudged : Rules → Head → ℕ → Numbers → Judged
+problemJudged R h k ns =
+    inTurn (
+    passes (not (h .seen)) (OutOfOrder k)
+    ∷ passes (within (R .problem) ns) (BeyondLimits k)
+    ∷ passes (leb (R .fewest) (ns .third) && leb (ns .third) (R .most)) (CountsDisagree k)
+    ∷ []
+    )
+
+-- whether a node had its line, in a format that has one for each node
+abbrev pub again : Rules → List Bool → ℕ → Bool
+again R taken node = R .once && getD taken (node - 1) false
+
+-- a data line, at line k: before the problem line it is 4, limits are 5, a node's second line 7, one line too many 6
+unfoldable pub dataJudged : Rules → Head → List Bool → ℕ → Numbers → Judged
+dataJudged R h taken k ns =
+    inTurn (
+    passes (h .seen) (OutOfOrder k)
+    ∷ passes (within (R .entries) ns) (BeyondLimits k)
+    ∷ passes (not (again R taken (ns .third))) (NodeAgain k)
+    ∷ passes (ltb (h .count) (h .problem .third)) (CountsDisagree k)
+    ∷ []
+    )
+
+-- line k: one without a form is 3
+unfoldable pub judged : Rules → Head → List Bool → ℕ → Line → Judged
+judged R h taken k Comment = Fine
+judged R h taken k (Problem ns) = problemJudged R h k ns
+judged R h taken k (Data ns) = dataJudged R h taken k ns
+judged R h taken k (Faulty f) = Refused (NoForm k)
+
+-- the end, where k is the number of lines plus one: 6 where `p` or data are lacking
+unfoldable pub ended : Head → ℕ → Judged
+ended h k = passes (h .seen && eqb (h .count) (h .problem .third)) (CountsDisagree k)

@@ -1,0 +1,11 @@
+pub mod Rules
+pub mod Gr
+pub mod Co
+pub mod Formats
+pub mod Judgement
+pub mod Fair
+pub mod Texts
+pub mod Rows
+pub mod Reading
+pub mod Accepted
+pub mod Promise

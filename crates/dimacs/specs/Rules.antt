@@ -1,0 +1,20 @@
+-- The limits of the numbers on a line. Assumes nothing: these are definitions.
+use Prim.Native.Nat.{ℕ}
+use mathlib.Core.Bool.{Bool, _&&_}
+use lib.Dec.{leb}
+use lib.IntN.{pos}
+use lib.Signed.{leZ}
+use Rattle.scan.specs.declared.fields.Numbers.{Numbers}
+use Rattle.dimacs.specs.declared.format.Limits.{Limits}
+
+-- numbers without sign
+abbrev pub naturals : ℕ → ℕ → ℕ → Numbers
+naturals first second third = record { first = first; second = second; third = third; x = pos 0; y = pos 0 }
+
+-- each number of a is at most its fellow of b
+abbrev pub noneAbove : Numbers → Numbers → Bool
+noneAbove a b = leb (a .first) (b .first) && leb (a .second) (b .second) && leb (a .third) (b .third) && leZ (a .x) (b .x) && leZ (a .y) (b .y)
+
+-- each number of a line is between the least and the most that it may be
+unfoldable pub within : Limits → Numbers → Bool
+within l ns = noneAbove (l .least) ns && noneAbove ns (l .most)

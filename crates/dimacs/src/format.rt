@@ -1,0 +1,138 @@
+// What each format says of its lines: their forms, and the limits of the numbers on them.
+use scan::fields::Numbers;
+use scan::line::Line;
+use scan::line::read_line;
+ghost use mathlib.Core.Path.{_≡_};
+ghost use Rattle.scan.specs.Held.{heldLine};
+ghost use Rattle.dimacs.specs.Rules.{naturals, noneAbove, within};
+ghost use Rattle.dimacs.specs.Gr.{grRules};
+ghost use Rattle.dimacs.specs.Co.{coRules};
+ghost use Rattle.dimacs.specs.Formats.{formatLine, rulesOf};
+
+// A format; the coordinates are of a graph of so many nodes.
+pub enum Format {
+    Graph,
+    Coordinates(u32),
+}
+
+// The least and the most that each number of a line may be.
+pub struct Limits {
+    pub least: Numbers,
+    pub most: Numbers,
+}
+
+// What is asked of the numbers on a format's lines.
+pub struct Rules {
+    // the limits on the problem line
+    pub problem: Limits,
+    // the fewest and the most data lines that the problem line may announce
+    pub fewest: u32,
+    pub most: u32,
+    // the limits on a data line
+    pub entries: Limits,
+    // whether each node has one data line, in any order
+    pub once: bool,
+}
+
+// Numbers without sign.
+fn naturals_of(first: u32, second: u32, third: u32) -> Numbers
+    ensures { λ r. ⌜ r ≡ naturals first second third ⌝ }
+{
+    Numbers {
+        first,
+        second,
+        third,
+        x: 0,
+        y: 0,
+    }
+}
+
+// Whether each number of a is at most its fellow of b.
+fn none_above(a: Numbers, b: Numbers) -> bool
+    ensures { λ r. ⌜ r ≡ noneAbove a b ⌝ }
+{
+    (a.first <= b.first)
+        & (a.second <= b.second)
+        & (a.third <= b.third)
+        & (a.x <= b.x)
+        & (a.y <= b.y)
+}
+
+// Whether each number of a line is within its limits.
+pub fn are_within(limits: Limits, ns: Numbers) -> bool
+    ensures { λ r. ⌜ r ≡ within limits ns ⌝ }
+{
+    let least = limits.least;
+    let most = limits.most;
+    none_above(least, ns) & none_above(ns, most)
+}
+
+// `p sp N M` and `a U V W`, after a problem line with this N.
+fn rules_gr(n: u32) -> Rules
+    ensures { λ r. ⌜ r ≡ grRules n ⌝ }
+{
+    Rules {
+        problem: Limits {
+            least: naturals_of(0, 1, 0),
+            most: naturals_of(0, rules::NODES, rules::ARCS),
+        },
+        fewest: 0,
+        most: rules::ARCS,
+        entries: Limits {
+            least: naturals_of(1, 1, 0),
+            most: naturals_of(n, n, rules::WEIGHT),
+        },
+        once: false,
+    }
+}
+
+// `p aux sp co N` and `v ID X Y`, for a graph of n nodes.
+fn rules_co(n: u32) -> Rules
+    ensures { λ r. ⌜ r ≡ coRules n ⌝ }
+{
+    Rules {
+        problem: Limits {
+            least: naturals_of(0, 0, 1),
+            most: naturals_of(0, 0, rules::NODES),
+        },
+        fewest: n,
+        most: n,
+        entries: Limits {
+            least: Numbers {
+                first: 0,
+                second: 0,
+                third: 1,
+                x: rules::LEAST_COORDINATE,
+                y: rules::LEAST_COORDINATE,
+            },
+            most: Numbers {
+                first: 0,
+                second: 0,
+                third: n,
+                x: rules::MOST_COORDINATE,
+                y: rules::MOST_COORDINATE,
+            },
+        },
+        once: true,
+    }
+}
+
+// The rules of a format after its problem line, or before it with no numbers.
+pub fn rules_for(format: Format, problem: Numbers) -> Rules
+    ensures { λ r. ⌜ r ≡ rulesOf format problem ⌝ }
+{
+    match format {
+        Format::Graph => rules_gr(problem.second),
+        Format::Coordinates(n) => rules_co(n),
+    }
+}
+
+// What a line is.
+pub fn line_of(format: Format, s: &[u8]) -> Line
+    ensures { λ r. ⌜ r ≡ heldLine (formatLine format (now (s .entry))) ⌝ }
+{
+    match format {
+        Format::Graph => read_line(s, b"p sp N M", b"a U V W"),
+        Format::Coordinates(_) => read_line(s, b"p aux sp co N", b"v ID X Y"),
+    }
+}

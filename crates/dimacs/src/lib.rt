@@ -1,0 +1,77 @@
+// The text formats of the 9th DIMACS Implementation Challenge: a text becomes rows, or gets its numbered refusal.
+pub mod format;
+pub mod judge;
+pub mod rows;
+pub mod sheet;
+
+use format::Format;
+use rows::Axis;
+use rows::Column;
+use rows::put_integers;
+use rows::put_naturals;
+use rules::Judged;
+use rules::Refusal;
+use sheet::read_sheet;
+ghost use Rattle.dimacs.specs.Promise.{GrPromise, CoPromise};
+
+// A graph file is read, with n and m, or refused.
+pub enum GrReply {
+    Read(u32, u32),
+    Refused(Refusal),
+}
+
+// A coordinate file is read, or refused.
+pub enum CoReply {
+    Read,
+    Refused(Refusal),
+}
+
+// Reads a graph file into three rows of at least 2,048 places.
+pub fn read_gr(text: &[u8], tails: &mut [u32], heads: &mut [u32], weights: &mut [u32]) -> GrReply
+    ensures { λ r. ⌜ GrPromise (now (text .entry)) (now (tails .entry)) (now (heads .entry)) (now (weights .entry))
+        r (now (tails .exit)) (now (heads .exit)) (now (weights .exit)) ⌝ }
+{
+    if rules::TEXT < text.len() {
+        return GrReply::Refused(Refusal::TextTooLong);
+    }
+    if !((2048 <= tails.len()) & (2048 <= heads.len()) & (2048 <= weights.len())) {
+        return GrReply::Refused(Refusal::RowTooShort);
+    }
+    let sheet = read_sheet(text, Format::Graph);
+    let judged = sheet.judged;
+    let Judged::Refused(refusal) = judged else {
+        let lines = sheet.lines;
+        let n = sheet.problem.second;
+        let m = sheet.problem.third;
+        put_naturals(lines, Column::First, m as usize, tails);
+        put_naturals(lines, Column::Second, m as usize, heads);
+        put_naturals(lines, Column::Third, m as usize, weights);
+        return GrReply::Read(n, m);
+    };
+    GrReply::Refused(refusal)
+}
+
+// Reads a coordinate file for a graph of n nodes into two rows of at least 512 places.
+pub fn read_co(text: &[u8], n: u32, x: &mut [i32], y: &mut [i32]) -> CoReply
+    ensures { λ r. ⌜ CoPromise (now (text .entry)) n (now (x .entry)) (now (y .entry)) r (now (x .exit)) (now (y .exit)) ⌝ }
+{
+    if rules::TEXT < text.len() {
+        return CoReply::Refused(Refusal::TextTooLong);
+    }
+    if !((512 <= x.len()) & (512 <= y.len())) {
+        return CoReply::Refused(Refusal::RowTooShort);
+    }
+    if !((1 <= n) & (n <= rules::NODES)) {
+        return CoReply::Refused(Refusal::BeyondLimits { line: 0 });
+    }
+    let sheet = read_sheet(text, Format::Coordinates(n));
+    let judged = sheet.judged;
+    let Judged::Refused(refusal) = judged else {
+        let lines = sheet.lines;
+        let m = sheet.problem.third;
+        put_integers(lines, Axis::X, m as usize, x);
+        put_integers(lines, Axis::Y, m as usize, y);
+        return CoReply::Read;
+    };
+    CoReply::Refused(refusal)
+}

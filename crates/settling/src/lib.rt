@@ -1,0 +1,52 @@
+// The search by labels: label arrays, the settling step, the run, and the route traced back.
+ghost use mathlib.Core.Path.{_≡_};
+ghost use Prim.Native.Nat.{_≤_};
+ghost use Rattle.settling.specs.Toward.{Room, keeps};
+
+mod nearest;
+pub mod run;
+mod settle;
+pub mod trace;
+
+// For each of 512 nodes: its length, its arc count and its settled mark. Length 4294967295 marks a node without a label.
+pub struct Labels {
+    pub length: [u32; 512],
+    pub arcs: [u32; 512],
+    pub settled: [bool; 512],
+}
+
+// The node to be settled next, or that none is left.
+pub enum Pick {
+    Node(usize),
+    Nothing,
+}
+
+// What a run ends with: the labels, how many nodes it settled (its target counted), and whether it found its target.
+pub struct Outcome {
+    pub labels: Labels,
+    pub count: usize,
+    pub found: bool,
+}
+
+// The arc by which a node has its label, or that there is none.
+pub enum Into {
+    Arc(usize),
+    Nothing,
+}
+
+// Which arcs a search may use: all, or only those whose box holds a place.
+pub enum Toward {
+    Anywhere,
+    Place(i32, i32),
+}
+
+// Whether a search may use arc `e`.
+fn passes(toward: Toward, boxes: &[i32], e: usize) -> bool
+    requires { ⌜ (1 ≤ e) × Room toward e (now boxes) ⌝ }
+    ensures { λ r. ⌜ r ≡ keeps toward (now (boxes .entry)) e ⌝ }
+{
+    match toward {
+        Toward::Anywhere => true,
+        Toward::Place(x, y) => geometry::holds(boxes, e, x, y),
+    }
+}

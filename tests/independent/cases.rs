@@ -1,0 +1,213 @@
+//! Cases for the console: files, and lines that need nothing from the lines of another case.
+
+use crate::console::ROWS;
+use crate::files::joined;
+use crate::lent::Lent;
+use crate::plans::{add_surplus, ask, change_boxes, plan, spoil, Asked};
+use crate::random::Random;
+use crate::sizes::NODES;
+use crate::texts::{co_text, damage, gr_text};
+
+/// The files that are there, and the lines that are typed. A file whose name ends in `/` is a folder.
+#[derive(Clone, Default)]
+pub struct Case {
+    pub files: Vec<(String, Vec<u8>)>,
+    pub lines: Vec<Vec<u8>>,
+    /// Whether the last line lacks its byte 10.
+    pub unended: bool,
+}
+
+impl Case {
+    /// Many cases, one after the other.
+    pub fn together(cases: &[Case]) -> Case {
+        let mut all = Case::default();
+        for case in cases {
+            all.files.extend(case.files.clone());
+            all.lines.extend(case.lines.clone());
+            all.unended = case.unended;
+        }
+        all
+    }
+
+    /// The bytes that are typed.
+    pub fn input(&self) -> Vec<u8> {
+        let mut input = self.lines.join(&b'\n');
+        if !self.lines.is_empty() && !self.unended {
+            input.push(b'\n');
+        }
+        input
+    }
+
+    /// Types a line.
+    pub fn say(&mut self, line: impl AsRef<[u8]>) {
+        self.lines.push(line.as_ref().to_vec());
+    }
+
+    /// Puts a file there.
+    pub fn file(&mut self, name: String, bytes: Vec<u8>) {
+        self.files.push((name, bytes));
+    }
+
+    /// Everything as at the start, then n, m and the rows as lent.
+    pub fn lend(&mut self, lent: &Lent) {
+        self.say("fresh");
+        self.say(format!("n {}", lent.n));
+        self.say(format!("m {}", lent.m));
+        let mut lent = lent.clone();
+        for row in ROWS {
+            let numbers = joined((row.of)(&mut lent));
+            self.say(format!("lend {} {numbers}", row.name).trim_end());
+        }
+    }
+
+    /// Shows all lent places of all rows.
+    pub fn show_rows(&mut self) {
+        for row in ROWS {
+            self.say(format!("show {}", row.name));
+        }
+    }
+
+    /// Makes some call with the numbers asked.
+    fn call(&mut self, random: &mut Random, asked: &Asked) {
+        let Asked { s, t, arc, weight } = asked;
+        self.say(match random.below(7) {
+            0 => "build".to_string(),
+            1 => "check".to_string(),
+            2 | 3 => format!("update {arc} {weight}"),
+            4 => format!("search {s} {t}"),
+            _ => format!("boxed {s} {t}"),
+        });
+    }
+}
+
+/// A small case of any kind. `name` is for its files.
+pub fn small(random: &mut Random, name: &str) -> Case {
+    match random.below(10) {
+        0..=2 => text_case(random, name),
+        3 => talk_case(random),
+        _ => call_case(random),
+    }
+}
+
+/// Calls on a small plan, spoilt in some things or in none, with all rows shown after each.
+pub fn call_case(random: &mut Random) -> Case {
+    let (nodes, arcs) = if random.once_in(50) { (60, 200) } else { (7, 14) };
+    let (n, m) = (random.between(1, nodes), random.between(0, arcs));
+    let mut lent = plan(random, n, m);
+    let mut asked = ask(random, &lent);
+    change_boxes(random, &mut lent);
+    add_surplus(random, &mut lent);
+    for _ in 0..random.pick(&[0, 0, 0, 1, 1, 2, 3]) {
+        spoil(random, &mut lent, &mut asked);
+    }
+    let mut case = Case::default();
+    case.lend(&lent);
+    for _ in 0..random.pick(&[1, 1, 1, 2, 3]) {
+        case.call(random, &asked);
+        case.show_rows();
+    }
+    case
+}
+
+/// The texts of a small plan, damaged or not, read into rows that are long, just long enough or too short.
+pub fn text_case(random: &mut Random, name: &str) -> Case {
+    let (n, m) = (random.between(1, 6), random.between(0, 8));
+    let plan = plan(random, n, m);
+    let asked = ask(random, &plan);
+    let (mut gr, mut co) = (gr_text(random, &plan), co_text(random, &plan));
+    let damaged = if random.once_in(2) { &mut gr } else { &mut co };
+    for _ in 0..random.pick(&[0, 1, 1, 1, 1, 2, 3]) {
+        *damaged = damage(random, damaged);
+    }
+    let mut case = Case::default();
+    case.say("fresh");
+    let own_rows = random.once_in(40);
+    if own_rows {
+        let mut lent = Lent { n: random.between(0, 9), m: 0, ..Lent::default() };
+        for row in ROWS {
+            // Half of what the console has is just what the readers need.
+            let places = row.places as i64 / 2 + random.pick(&[-1, 0, 0, 0, 1, 2]);
+            *(row.of)(&mut lent) = (0..places).map(|_| random.between(0, 9)).collect();
+        }
+        case.lend(&lent);
+    }
+    case.say(format!("gr {name}.gr"));
+    if random.once_in(3) {
+        case.say(format!("n {}", random.pick(&[n, n, n + 1, 0, NODES, NODES + 1, 4_294_967_295])));
+    }
+    case.say(format!("co {name}.co"));
+    case.call(random, &asked);
+    if own_rows {
+        case.show_rows();
+    } else {
+        for row in ROWS {
+            let some = if row.name == "boxes" { 4 * m + 5 } else { n + m + 3 };
+            case.say(format!("show {} {some}", row.name));
+        }
+    }
+    case.file(format!("{name}.gr"), gr);
+    case.file(format!("{name}.co"), co);
+    case
+}
+
+/// Lines that are no commands, or that name numbers at the ends of their types.
+#[rustfmt::skip]
+pub const ODD_LINES: [&[u8]; 58] = [
+    b"", b" ", b"\t", b"\r", b"  ", b" n 1", b"n 1 ", b"n  1", b"n\t1", b"n 1\r", b"n\r", b" \r",
+    b"N 1", b"nn 1", b"1", b"?", b"n", b"m", b"n 1 2", b"n 01", b"n -1", b"n -0", b"n +1", b"n x", b"n 0",
+    b"m 4294967295", b"m 4294967296", b"n 18446744073709551617", b"m 1x",
+    b"lend", b"lend rows", b"lend rows 1", b"lend weights", b"lend tails 1 -1", b"lend tails 4294967295",
+    b"lend tails 4294967296 x", b"lend heads x 4294967296", b"lend x -0", b"lend x -2147483648 2147483647",
+    b"lend y 2147483648", b"lend boxes -2147483649",
+    b"show", b"show rows", b"show x 1 2", b"show x -1", b"show y 01", b"show y 1025",
+    b"show route 4294967296", b"show boxes 0", b"gr", b"co a b", b"gr .", b"co missing",
+    b"build 1", b"update 1", b"search 1", b"boxed 1 1 1", b"search 1 4294967296",
+];
+
+/// A row of more numbers than the console has places for; the last is misspelt, which comes second.
+pub fn long_row(row: usize) -> Vec<u8> {
+    let numbers = " 0".repeat(ROWS[row].places);
+    format!("lend {}{numbers} x", ROWS[row].name).into_bytes()
+}
+
+/// A call case with lines damaged, and with odd lines in between.
+fn talk_case(random: &mut Random) -> Case {
+    let mut case = call_case(random);
+    for _ in 0..random.between(1, 6) {
+        let at = random.below(case.lines.len());
+        let line = &mut case.lines[at];
+        let place = random.below(line.len().max(1));
+        let byte = random.pick(b" \r\t-0x9\0\xff");
+        match random.below(7) {
+            0 => line.insert(place, byte),
+            1 => line.extend([b' ', byte]),
+            2 => line.truncate(place),
+            3 => line.iter_mut().for_each(|byte| *byte = random.between(11, 255) as u8),
+            _ => case.lines.insert(at, random.pick(&ODD_LINES).to_vec()),
+        }
+    }
+    if random.once_in(40) {
+        case.lines.insert(1, long_row(random.below(ROWS.len())));
+    }
+    case
+}
+
+/// The files for the program `boxes`: a pair, damaged or not, or with one lacking or a folder.
+pub fn boxes_case(random: &mut Random) -> Case {
+    let (n, m) = (random.between(1, 6), random.between(0, 9));
+    let plan = plan(random, n, m);
+    let mut texts = [("net.gr", gr_text(random, &plan)), ("net.co", co_text(random, &plan))];
+    for _ in 0..random.pick(&[0, 0, 1, 1, 2]) {
+        let text = &mut texts[random.below(2)].1;
+        *text = damage(random, text);
+    }
+    let mut case = Case::default();
+    for (name, text) in texts {
+        match random.below(24) {
+            0 => (),
+            1 => case.file(format!("{name}/"), Vec::new()),
+            _ => case.file(name.to_string(), text),
+        }
+    }
+    case
+}

@@ -1,0 +1,82 @@
+//! The hall plan of 01, word for word.
+
+use crate::cases::Case;
+use crate::console::HELP;
+
+pub const GR: &str = "c four block ends\np sp 4 6\na 1 2 3\na 2 3 2\na 1 3 5\na 3 4 1\na 1 4 9\na 4 1 4\n";
+
+pub const CO: &str = "p aux sp co 4\nv 1 0 0\nv 2 10 0\nv 3 10 5\nv 4 -5 20\n";
+
+pub const LISTING: &str = "\
+1 1 2 3 -5 10 0 20
+2 2 3 2 -5 10 0 20
+3 1 3 5 -5 10 5 20
+4 3 4 1 -5 10 0 20
+5 1 4 9 -5 -5 20 20
+6 4 1 4 0 10 0 5
+";
+
+/// Its lines as console commands with the replies; the plan is read from `hall.gr` and `hall.co`.
+pub const TALK: [(&str, &str); 40] = [
+    ("gr hall.gr", "ok 4 6"),
+    ("co hall.co", "ok"),
+    ("build", "ok"),
+    ("show boxes 24", "boxes -5 10 0 20 -5 10 0 20 -5 10 5 20 -5 10 0 20 -5 -5 20 20 0 10 0 5"),
+    ("check", "ok"),
+    ("boxed 1 4", "ok 6 2 4 3 4"),
+    ("search 1 4", "ok 6 2 4 3 4"),
+    ("boxed 1 2", "ok 3 1 2 1"),
+    ("search 1 2", "ok 3 1 2 1"),
+    ("boxed 4 2", "ok 7 2 3 6 1"),
+    ("search 4 2", "ok 7 2 3 6 1"),
+    ("boxed 1 1", "ok 0 0 1"),
+    ("search 1 1", "ok 0 0 1"),
+    // Arc 3's low raised to 6.
+    ("lend boxes -5 10 0 20 -5 10 0 20 -5 10 6 20 -5 10 0 20 -5 -5 20 20 0 10 0 5", "ok"),
+    ("check", "refused 13 3 3 (the box of arc 3 misses node 3)"),
+    ("build", "ok"),
+    ("update 5 6", "ok"),
+    ("show weights 6", "weights 3 2 5 1 6 4"),
+    ("check", "ok"),
+    ("boxed 1 4", "ok 6 1 4 5"),
+    ("search 1 4", "ok 6 1 4 5"),
+    // Two nodes, only arc 2 to 1.
+    ("n 2", "ok"),
+    ("m 1", "ok"),
+    ("lend tails 2", "ok"),
+    ("lend heads 1", "ok"),
+    ("lend weights 3", "ok"),
+    ("search 1 2", "refused 12 1 (no walk leads from the source to the target, settled 1)"),
+    // Arcs 1-2 and 2-1 of weight 0, 1-3 and 2-3 of weight 5.
+    ("n 3", "ok"),
+    ("m 4", "ok"),
+    ("lend tails 1 2 1 2", "ok"),
+    ("lend heads 2 1 3 3", "ok"),
+    ("lend weights 0 0 5 5", "ok"),
+    ("search 1 3", "ok 5 1 3 3"),
+    // The refused lines of texts.
+    ("fresh", "ok"),
+    ("gr minus.gr", "refused 3 2 (line 2 is not spelt like a line of this kind of file)"),
+    ("gr heavy.gr", "refused 5 2 (a number in line 2 is beyond its limits)"),
+    ("n 4", "ok"),
+    ("co zero.co", "refused 5 2 (a number in line 2 is beyond its limits)"),
+    ("co seven.co", "refused 3 2 (line 2 is not spelt like a line of this kind of file)"),
+    ("help", HELP),
+];
+
+/// The talk as a case, with the files it names.
+pub fn case() -> Case {
+    let files = [
+        ("hall.gr", GR),
+        ("hall.co", CO),
+        ("minus.gr", "p sp 2 1\na 1 2 -3\n"),
+        ("heavy.gr", "p sp 2 1\na 1 2 1000001\n"),
+        ("zero.co", "p aux sp co 4\nv 0 1 1\n"),
+        ("seven.co", "p aux sp co 4\nv 1 07 1\n"),
+    ];
+    Case {
+        files: files.map(|(name, text)| (name.to_string(), text.into())).to_vec(),
+        lines: TALK.map(|(line, _)| line.into()).to_vec(),
+        unended: false,
+    }
+}

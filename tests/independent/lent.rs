@@ -1,0 +1,22 @@
+//! What is lent to a call.
+
+/// The numbers n and m and the rows, each as long as it is lent. `i64` holds both kinds of 32-bit numbers.
+#[derive(Clone, Debug, Default, PartialEq, Eq)]
+pub struct Lent {
+    pub n: i64,
+    pub m: i64,
+    pub tails: Vec<i64>,
+    pub heads: Vec<i64>,
+    pub weights: Vec<i64>,
+    pub x: Vec<i64>,
+    pub y: Vec<i64>,
+    pub boxes: Vec<i64>,
+    pub route: Vec<i64>,
+}
+
+/// Writes the first places of a row; the others keep their contents.
+pub fn fill(row: &mut [i64], values: impl IntoIterator<Item = i64>) {
+    for (place, value) in row.iter_mut().zip(values) {
+        *place = value;
+    }
+}

@@ -1,0 +1,86 @@
+//! Cases at the limits: whole inputs, the largest networks, the largest texts.
+
+use crate::cases::Case;
+use crate::console::LINE_BYTES;
+use crate::plans::{add_surplus, ask, plan};
+use crate::random::Random;
+use crate::sizes::{ARCS, NODES, WEIGHT};
+use crate::texts::{co_text, gr_text};
+
+/// Inputs in which the end or the length of a line matters.
+pub fn streams() -> Vec<Case> {
+    let line =
+        |begin: &str, bytes: usize| begin.bytes().chain(vec![b'x'; bytes - begin.len()]).collect::<Vec<u8>>();
+    let boxes = |places: usize| format!("lend boxes{}", " -2147483648".repeat(places)).into_bytes();
+    let (help, show) = (|| b"help".to_vec(), || b"show boxes 3".to_vec());
+    let inputs = [
+        vec![],
+        vec![vec![]],
+        vec![help()],
+        vec![help(), vec![], show()],
+        vec![line("help ", LINE_BYTES)],
+        vec![line("help ", LINE_BYTES), help()],
+        vec![line("help ", LINE_BYTES + 1)],
+        vec![line("help ", LINE_BYTES + 1), help()],
+        vec![line("n 1\rx ", 10_000_000), help()],
+        vec![line("gr ", 200_000), help()],
+        vec![vec![0; 1_000_000], show()],
+        vec![boxes(16_384), b"show boxes".to_vec()],
+        vec![boxes(16_385), show()],
+    ];
+    let both_ends = |lines: &Vec<Vec<u8>>| {
+        [false, true].map(|unended| Case { lines: lines.clone(), unended, ..Case::default() })
+    };
+    inputs.iter().flat_map(both_ends).collect()
+}
+
+/// The largest network with all calls: with the longest way, with any weights, or with many ties.
+pub fn limit_case(random: &mut Random, kind: usize) -> Case {
+    let mut lent = plan(random, NODES, ARCS);
+    for e in 0..ARCS {
+        let (tail, head, weight) = match kind {
+            // The longest way there can be: 511 arcs of the greatest weight. All other arcs lead back.
+            0 if e < NODES - 1 => (e + 1, e + 2, WEIGHT),
+            0 => (NODES, random.between(1, NODES), WEIGHT),
+            1 => (random.between(1, NODES), random.between(1, NODES), random.between(0, WEIGHT)),
+            _ => (random.between(1, NODES), random.between(1, NODES), random.between(0, 3)),
+        };
+        (lent.tails[e as usize], lent.heads[e as usize], lent.weights[e as usize]) = (tail, head, weight);
+    }
+    add_surplus(random, &mut lent);
+    let mut case = Case::default();
+    case.lend(&lent);
+    case.say(format!("search 1 {NODES}"));
+    for call in ["build", "show boxes", "check"] {
+        case.say(call);
+    }
+    for _ in 0..3 {
+        let asked = ask(random, &lent);
+        case.say(format!("search {} {}", asked.s, asked.t));
+        case.say(format!("boxed {} {}", asked.s, asked.t));
+        case.say("show route");
+    }
+    case.say(format!("update {} {}", random.between(1, ARCS), random.pick(&[0, WEIGHT])));
+    case.show_rows();
+    case
+}
+
+/// The largest texts, and then one node or one arc too many, for which the rows are long enough.
+pub fn limit_texts(random: &mut Random, name: &str) -> Case {
+    let lent = plan(random, NODES, ARCS);
+    let mut case = Case::default();
+    case.file(format!("{name}.gr"), gr_text(random, &lent));
+    case.file(format!("{name}.co"), co_text(random, &lent));
+    case.say("fresh");
+    case.say(format!("gr {name}.gr"));
+    case.say(format!("co {name}.co"));
+    case.show_rows();
+    // No file has a name with a byte 0 in it.
+    case.say(format!("gr {name}.gr\0"));
+    for line in
+        ["search 1 512", "n 513", "search 1 1", "build", "n 512", "m 2049", "search 1 1", "update 1 1"]
+    {
+        case.say(line);
+    }
+    case
+}

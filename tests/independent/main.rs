@@ -1,0 +1,112 @@
+//! The independent program: document 01 a second time, from its words alone, to compare the crates with.
+//! It is built by: rustc -O --edition 2021 -o target/independent tests/independent/main.rs
+
+mod boxes;
+mod calls;
+mod cases;
+mod compare;
+mod console;
+mod files;
+mod hall;
+mod lent;
+mod limits;
+mod network;
+mod plans;
+mod random;
+mod record;
+mod refusals;
+mod scratch;
+mod selftest;
+mod shrink;
+mod sizes;
+mod text;
+mod texts;
+
+use console::{converse, Console};
+use files::{joined, read_file};
+use refusals::Refusal;
+use std::fs::File;
+use std::io::{self, BufReader, Write};
+use std::path::Path;
+use std::process::ExitCode;
+
+const USAGE: &str = "\
+independent selftest                    checks this program itself
+independent expect FILE                 the replies to a file of console commands
+independent console                     the replies to console commands as they are typed
+independent boxes                       what `boxes` prints for net.gr and net.co here
+independent read gr FILE                a reader's reply, then the places it fills, row by row
+independent read co FILE N              the same for the coordinates of N nodes
+independent record SEED FOLDER          console commands to keep; their files are written into FOLDER
+independent compare CONSOLE BOXES [SEED] [COUNT]
+                                        compares the programs these commands start, by COUNT small cases
+";
+
+const SEED: u64 = 1;
+const COUNT: usize = 20_000;
+
+fn main() -> ExitCode {
+    let words: Vec<String> = std::env::args().skip(1).collect();
+    let words: Vec<&str> = words.iter().map(String::as_str).collect();
+    match obey(&words) {
+        Ok(true) => ExitCode::SUCCESS,
+        Ok(false) => ExitCode::FAILURE,
+        Err(problem) => {
+            eprintln!("{problem}");
+            ExitCode::FAILURE
+        }
+    }
+}
+
+/// Does what the words say; false if something was found wrong.
+fn obey(words: &[&str]) -> Result<bool, Box<dyn std::error::Error>> {
+    let mut out = io::stdout().lock();
+    match *words {
+        ["selftest"] => return Ok(selftest::run()),
+        ["expect", file] => converse(Console::started_in(""), BufReader::new(File::open(file)?), out)?,
+        ["console"] => converse(Console::started_in(""), io::stdin().lock(), out)?,
+        ["boxes"] => out.write_all(files::listing(Path::new("")).as_bytes())?,
+        ["read", "gr", file] => out.write_all(told(gr_read(file)).as_bytes())?,
+        ["read", "co", file, n] => out.write_all(told(co_read(file, n.parse()?)).as_bytes())?,
+        ["record", seed, folder] => {
+            let case = record::recorded(seed.parse()?);
+            scratch::write_files(Path::new(folder), &case.files);
+            out.write_all(&case.input())?;
+        }
+        ["compare", console, boxes] => return Ok(compare::run(console, boxes, SEED, COUNT)),
+        ["compare", console, boxes, seed] => return Ok(compare::run(console, boxes, seed.parse()?, COUNT)),
+        ["compare", console, boxes, seed, count] => {
+            return Ok(compare::run(console, boxes, seed.parse()?, count.parse()?))
+        }
+        _ => return Err(USAGE.into()),
+    }
+    Ok(true)
+}
+
+/// The lines of `read`: what the reader returns and the places it fills, or the refusal with its values.
+fn told(read: Result<Vec<String>, Refusal>) -> String {
+    match read {
+        Ok(lines) => lines.join("\n") + "\n",
+        Err(Refusal { number, values }) => {
+            format!("refused {number} {}", joined(&values)).trim_end().to_string() + "\n"
+        }
+    }
+}
+
+fn row(name: &str, row: &[i64], places: i64) -> String {
+    format!("{name} {}", joined(&row[..places as usize])).trim_end().to_string()
+}
+
+fn gr_read(file: &str) -> Result<Vec<String>, Refusal> {
+    let mut lent = files::rows_for_reading();
+    let (n, m) = text::read_gr(&read_file(Path::new(file))?, &mut lent)?;
+    let rows = [("tails", &lent.tails), ("heads", &lent.heads), ("weights", &lent.weights)];
+    Ok([format!("ok {n} {m}")].into_iter().chain(rows.map(|(name, numbers)| row(name, numbers, m))).collect())
+}
+
+fn co_read(file: &str, n: i64) -> Result<Vec<String>, Refusal> {
+    let mut lent = files::rows_for_reading();
+    lent.n = n;
+    text::read_co(&read_file(Path::new(file))?, &mut lent)?;
+    Ok(vec!["ok".to_string(), row("x", &lent.x, n), row("y", &lent.y, n)])
+}

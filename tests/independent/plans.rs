@@ -1,0 +1,192 @@
+//! Random plans: networks, places, boxes, lent rows with surplus, and what can be wrong with them.
+
+use crate::calls::build;
+use crate::console::ROWS;
+use crate::lent::{fill, Lent};
+use crate::random::Random;
+use crate::sizes::*;
+
+/// The greatest number of an unsigned row, and the ends of a signed one.
+const FAR: i64 = u32::MAX as i64;
+const FAR_EAST: i64 = i32::MAX as i64;
+const FAR_WEST: i64 = i32::MIN as i64;
+
+/// A plan of n nodes and m arcs in rows of just the places needed, with tight boxes.
+pub fn plan(random: &mut Random, n: i64, m: i64) -> Lent {
+    let mut lent = Lent { n, m, ..Lent::default() };
+    lent.route = (0..n).map(|_| random.between(0, 99)).collect();
+    draw_arcs(random, &mut lent);
+    draw_weights(random, &mut lent);
+    draw_places(random, &mut lent);
+    lent.boxes = vec![0; 4 * m as usize];
+    build(&mut lent).expect("a plan within the limits has boxes");
+    lent
+}
+
+/// Arcs anywhere; in two parts without a way between; in few pairs, so that many are parallel;
+/// there and back; mostly loops; or along the numbers.
+fn draw_arcs(random: &mut Random, lent: &mut Lent) {
+    let (n, m) = (lent.n, lent.m);
+    let kind = random.below(7);
+    let half = (n + 1) / 2;
+    for e in 0..m {
+        let any = (random.between(1, n), random.between(1, n));
+        let (tail, head) = match kind {
+            0 | 1 => any,
+            2 if any.0 <= half => (any.0, random.between(1, half)),
+            2 => (any.0, random.between(half + 1, n)),
+            3 => (random.between(1, n.min(2)), random.between(1, n.min(3))),
+            4 if e % 2 == 1 => (lent.heads[e as usize - 1], lent.tails[e as usize - 1]),
+            4 => any,
+            5 if random.once_in(2) => (any.0, any.0),
+            5 => any,
+            _ => (e % n + 1, (e + 1) % n + 1),
+        };
+        lent.tails.push(tail);
+        lent.heads.push(head);
+    }
+}
+
+/// Weights of few values tie often; weights of 0 make zero walks; others go to the limit.
+fn draw_weights(random: &mut Random, lent: &mut Lent) {
+    let (least, greatest) = random.pick(&[
+        (0, 1),
+        (0, 2),
+        (0, 0),
+        (1, 1),
+        (1, 4),
+        (0, 20),
+        (WEIGHT, WEIGHT),
+        (WEIGHT - 1, WEIGHT),
+        (0, WEIGHT),
+    ]);
+    let often_zero = random.once_in(3);
+    for _ in 0..lent.m {
+        let weight = if often_zero && random.once_in(2) { 0 } else { random.between(least, greatest) };
+        lent.weights.push(weight);
+    }
+}
+
+/// All at one place; wholly negative; on a small grid with shared places; at the limits; or anywhere.
+fn draw_places(random: &mut Random, lent: &mut Lent) {
+    let kind = random.below(6);
+    let one_place = (random.between(-9, 9), random.between(-9, 9));
+    for _ in 0..lent.n {
+        let mut within = |least, greatest| (random.between(least, greatest), random.between(least, greatest));
+        let (x, y) = match kind {
+            0 => one_place,
+            1 => within(-50, -10),
+            2 => within(0, 2),
+            3 => within(-6, 6),
+            4 => (random.pick(&[-COORDINATE, COORDINATE]), random.pick(&[-COORDINATE, 0, COORDINATE])),
+            _ => within(-COORDINATE, COORDINATE),
+        };
+        lent.x.push(x);
+        lent.y.push(y);
+    }
+}
+
+/// Leaves the boxes tight, or makes them enlarged, full, wholly random but well shaped,
+/// or one of them smaller on one side.
+pub fn change_boxes(random: &mut Random, lent: &mut Lent) {
+    let kind = random.below(6);
+    for sides in lent.boxes.chunks_mut(4) {
+        match kind {
+            0 => {
+                for (side, away) in sides.iter_mut().zip([-1, 1, -1, 1]) {
+                    *side = (*side + away * random.between(0, 5)).clamp(-COORDINATE, COORDINATE);
+                }
+            }
+            1 => fill(sides, [-COORDINATE, COORDINATE, -COORDINATE, COORDINATE]),
+            2 => {
+                for axis in sides.chunks_mut(2) {
+                    fill(axis, [random.between(-9, 9), random.between(-9, 9)]);
+                    axis.sort();
+                }
+            }
+            _ => (),
+        }
+    }
+    if kind == 3 && lent.m > 0 {
+        let side = random.below(lent.boxes.len());
+        let inward = if side % 2 == 0 { 1 } else { -1 };
+        let other = lent.boxes[side ^ 1];
+        let moved = lent.boxes[side] + inward * random.between(1, 12);
+        lent.boxes[side] = if inward == 1 { moved.min(other) } else { moved.max(other) };
+    }
+}
+
+/// Adds places after those needed, filled with numbers that would be refused if they were read.
+pub fn add_surplus(random: &mut Random, lent: &mut Lent) {
+    for row in ROWS {
+        for _ in 0..random.below(4) {
+            let number = if row.signed { random.pick(&[FAR_EAST, FAR_WEST]) } else { FAR };
+            (row.of)(lent).push(number);
+        }
+    }
+}
+
+/// The numbers handed in with a call.
+pub struct Asked {
+    pub s: i64,
+    pub t: i64,
+    pub arc: i64,
+    pub weight: i64,
+}
+
+/// Numbers that a call on this plan takes, if it has an arc.
+pub fn ask(random: &mut Random, lent: &Lent) -> Asked {
+    Asked {
+        s: random.between(1, lent.n),
+        t: random.between(1, lent.n),
+        arc: random.between(1, lent.m.max(1)),
+        weight: random.pick(&[0, 1, 2, 7, WEIGHT]),
+    }
+}
+
+/// Makes one thing wrong: a number handed in, a row's length, or a number in a row.
+pub fn spoil(random: &mut Random, lent: &mut Lent, asked: &mut Asked) {
+    let no_node = random.pick(&[0, (lent.n + 1).min(FAR), NODES + 1, FAR]);
+    let no_arc = random.pick(&[0, (lent.m + 1).min(FAR), ARCS + 1, FAR]);
+    let no_weight = random.pick(&[WEIGHT + 1, FAR]);
+    let no_coordinate = random.pick(&[-COORDINATE - 1, COORDINATE + 1, FAR_EAST, FAR_WEST]);
+    match random.below(14) {
+        0 => lent.n = no_node,
+        1 => lent.m = no_arc,
+        2 | 3 => {
+            let row = &ROWS[random.below(ROWS.len())];
+            let needed = match row.name {
+                "tails" | "heads" | "weights" => lent.m,
+                "boxes" => 4 * lent.m,
+                _ => lent.n,
+            };
+            let kept = (needed - random.between(1, 2)).max(0);
+            (row.of)(lent).truncate(kept as usize);
+        }
+        4 => put(random, &mut lent.tails, no_node),
+        5 => put(random, &mut lent.heads, no_node),
+        6 => put(random, &mut lent.weights, no_weight),
+        7 => put(random, &mut lent.x, no_coordinate),
+        8 => put(random, &mut lent.y, no_coordinate),
+        9 => put(random, &mut lent.boxes, no_coordinate),
+        10 => {
+            // A box whose two ends on one axis stand the wrong way round.
+            let axes = lent.boxes.len() / 2;
+            if axes > 0 {
+                let end = 2 * random.below(axes);
+                lent.boxes[end + 1] = (lent.boxes[end] - 1).max(FAR_WEST);
+            }
+        }
+        11 => asked.s = no_node,
+        12 => asked.t = no_node,
+        _ if random.once_in(2) => asked.arc = no_arc,
+        _ => asked.weight = no_weight,
+    }
+}
+
+/// Puts a number into some place of a row, if it has any.
+fn put(random: &mut Random, row: &mut [i64], number: i64) {
+    if !row.is_empty() {
+        row[random.below(row.len())] = number;
+    }
+}

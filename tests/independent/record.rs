@@ -1,0 +1,61 @@
+//! The recorded cases, for comparing a console with a stored output.
+
+use crate::cases::{call_case, long_row, text_case, Case, ODD_LINES};
+use crate::console::LINE_BYTES;
+use crate::hall;
+use crate::random::Random;
+use crate::sizes::TEXT_BYTES;
+
+/// The recorded cases: the hall plan, every refusal, every fault, and some hundred cases from the seed.
+pub fn recorded(seed: u64) -> Case {
+    let mut case = hall::case();
+    for (name, text) in BAD_TEXTS {
+        case.file(name.to_string(), text.as_bytes().to_vec());
+        case.say(format!("{} {name}", &name[name.len() - 2..]));
+    }
+    case.file("long.gr".to_string(), vec![b'c'; TEXT_BYTES + 1]);
+    for line in ["gr long.gr", "fresh", "gr hall.gr", "co hall.co", "build"].iter().chain(&BAD_ROWS) {
+        case.say(line);
+    }
+    for line in ODD_LINES {
+        case.say(line);
+    }
+    case.say(long_row(3));
+    let mut random = Random::new(seed);
+    for number in 1..=30 {
+        let texts = text_case(&mut random, &format!("case{number}"));
+        case.files.extend(texts.files);
+        case.lines.extend(texts.lines);
+    }
+    for _ in 0..170 {
+        case.lines.extend(call_case(&mut random).lines);
+    }
+    case.say(vec![b'x'; LINE_BYTES + 1]);
+    case
+}
+
+/// Texts for a graph of four nodes, refused by 4, 5, 6 or 7.
+const BAD_TEXTS: [(&str, &str); 9] = [
+    ("early.gr", "a 1 2 3\np sp 2 1\n"),
+    ("second.gr", "p sp 2 1\na 1 2 3\np sp 2 1\n"),
+    ("few.gr", "p sp 2 2\na 1 2 3\n"),
+    ("many.gr", "p sp 2 1\na 1 2 3\na 2 1 3"),
+    ("large.gr", "p sp 513 1\na 1 2 3\n"),
+    ("none.gr", ""),
+    ("other.co", "p aux sp co 3\nv 1 0 0\n"),
+    ("twice.co", "p aux sp co 4\nv 1 0 0\nv 2 0 0\nv 1 0 0\n"),
+    ("few.co", "p aux sp co 4\nv 4 0 0\nc\n"),
+];
+
+/// Calls on the hall plan, refused one after the other by 0, 5, 2, 8, 9, 10, 11 and 5.
+#[rustfmt::skip]
+const BAD_ROWS: [&str; 20] = [
+    "gr missing.gr",
+    "n 0", "build", "n 4",
+    "lend route 1 2 3", "search 1 4", "lend route 9 9 9 9",
+    "lend weights 3 2 1000001 1 9 4", "search 1 4", "lend weights 3 2 5 1 9 4 4294967295",
+    "lend x 0 10 1000001 -5", "check", "lend x 0 10 10 -5",
+    "lend boxes -5 10 0 20 -5 10 1 0 -5 10 5 20 -5 10 0 20 -5 -5 20 20 0 10 0 5", "boxed 1 4",
+    "lend boxes -5 10 0 20 -5 10 0 20 -5 10 5 20 -5 10 0 20 -5 -5 20 20 0 10 0 5", "boxed 1 5",
+    "update 7 1", "update 6 1000001", "update 6 1000000",
+];

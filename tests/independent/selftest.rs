@@ -1,0 +1,257 @@
+//! The program's own check: 01's worked lines, learners' errors, and 01's claims on random networks.
+
+use crate::boxes::{all_s, Rectangle};
+use crate::calls::{boxed, build, check, judge_arcs, search, update};
+use crate::cases::{small, Case};
+use crate::console::{Fault, FAULT_WORDS};
+use crate::files::{listing, rows_for_reading};
+use crate::hall;
+use crate::lent::Lent;
+use crate::network::{labels, lengths, Arc};
+use crate::plans::{add_surplus, ask, change_boxes, plan};
+use crate::random::Random;
+use crate::record::recorded;
+use crate::refusals::refused;
+use crate::scratch::Scratch;
+use crate::text::{number, read_co, read_gr, signed_number};
+use crate::texts::{co_text, gr_text};
+use std::collections::BTreeSet;
+
+#[derive(Default)]
+struct Tally {
+    passed: usize,
+    failed: usize,
+}
+
+impl Tally {
+    fn expect(&mut self, holds: bool, what: impl AsRef<str>) {
+        if holds {
+            self.passed += 1;
+        } else {
+            self.failed += 1;
+            println!("fails: {}", what.as_ref());
+        }
+    }
+}
+
+/// Runs everything; true if all of it holds.
+pub fn run() -> bool {
+    let mut tally = Tally::default();
+    numbers(&mut tally);
+    hall_plan(&mut tally);
+    one_tree_per_node(&mut tally);
+    wholly_west(&mut tally);
+    let mut random = Random::new(1);
+    for _ in 0..4_000 {
+        claims(&mut tally, &mut random);
+    }
+    coverage(&mut tally);
+    println!("{} passed, {} failed", tally.passed, tally.failed);
+    tally.failed == 0
+}
+
+/// Spelling and value of numbers.
+fn numbers(tally: &mut Tally) {
+    for (field, value) in [("0", 0), ("7", 7), ("1000001", 1_000_001), ("4294967297", 4_294_967_297)] {
+        tally.expect(number(field.as_bytes()) == Some(value), field);
+        let negative = signed_number(format!("-{field}").as_bytes());
+        tally.expect(negative == Some(-value).filter(|value| *value != 0), format!("-{field}"));
+    }
+    for field in ["", "00", "07", "-1", "+1", "1 ", "1\r", "--1", "-", "a"] {
+        tally.expect(number(field.as_bytes()).is_none(), field);
+    }
+    tally.expect(number("9".repeat(60_000).as_bytes()) == Some(i64::MAX), "60,000 digits");
+}
+
+/// The arcs of a network that is within the limits.
+fn arcs(lent: &Lent) -> Vec<Arc> {
+    judge_arcs(lent, &[]).expect("the network is within the limits")
+}
+
+/// 'A hall plan worked through'.
+fn hall_plan(tally: &mut Tally) {
+    let scratch = Scratch::new();
+    let talk = hall::case();
+    let net = [("net.gr".to_string(), hall::GR.into()), ("net.co".to_string(), hall::CO.into())];
+    scratch.write(&[&talk.files[..], &net].concat());
+    tally.expect(listing(&scratch.folder) == hall::LISTING, "the listing of the hall plan");
+
+    let output = String::from_utf8(scratch.demanded(&talk.input())).expect("replies are plain text");
+    tally.expect(output.lines().count() == hall::TALK.len(), "one reply for each line");
+    for ((line, reply), answer) in hall::TALK.iter().zip(output.lines()) {
+        tally.expect(answer == *reply, format!("{line}: {reply}, not {answer}"));
+    }
+
+    let mut lent = rows_for_reading();
+    (lent.n, lent.m) = read_gr(hall::GR.as_bytes(), &mut lent).expect("the hall plan is accepted");
+    tally.expect(read_co(hall::CO.as_bytes(), &mut lent).is_ok(), "the hall plan's places are accepted");
+    let s = all_s(4, &arcs(&lent));
+    tally.expect(s[0] == [2, 3, 4], "S(1)");
+    tally.expect(s[4].is_empty(), "S(5)");
+    lent.boxes = [-1_000_000, 1_000_000].repeat(12);
+    tally.expect(check(&lent).is_ok(), "every box at the full limits");
+}
+
+/// Learners' error 1: boxes from one tree per node lose both ways to 4, though they hold their heads.
+fn one_tree_per_node(tally: &mut Tally) {
+    let mut lent = Lent {
+        n: 4,
+        m: 5,
+        tails: vec![1, 2, 1, 2, 3],
+        heads: vec![2, 1, 3, 3, 4],
+        weights: vec![0, 0, 5, 5, 1],
+        x: vec![1, 2, 3, 4],
+        y: vec![0; 4],
+        // Arcs 1 and 2 hold what the trees from 1 and from 2 reach through them, 3 and 4 only their head.
+        boxes: [[2, 4, 0, 0], [1, 4, 0, 0], [3, 3, 0, 0], [3, 3, 0, 0], [4, 4, 0, 0]].concat(),
+        route: vec![0; 4],
+    };
+    tally.expect(boxed(&mut lent, 1, 4) == refused(12, &[2]), "from 1 the way to 4 is lost");
+    tally.expect(boxed(&mut lent, 2, 4) == refused(12, &[2]), "from 2 the way to 4 is lost");
+    // A zero walk returns to 1 through arc 1, so S(1) holds 1; the tree from 1 does not show it.
+    tally.expect(check(&lent) == refused(13, &[1, 1]), "check refuses boxes from trees");
+    tally.expect(build(&mut lent).is_ok() && check(&lent).is_ok(), "built boxes lose nothing");
+    tally.expect(boxed(&mut lent, 1, 4) == search(&mut lent, 1, 4), "the way to 4 is found");
+}
+
+/// Learners' error 2: boxes of a plan wholly west of the origin do not reach it.
+fn wholly_west(tally: &mut Tally) {
+    let mut lent = Lent { n: 2, m: 1, tails: vec![1], heads: vec![2], weights: vec![3], ..Lent::default() };
+    (lent.x, lent.y, lent.boxes) = (vec![-9, -7], vec![-5, -5], vec![0; 4]);
+    tally.expect(build(&mut lent).is_ok(), "a plan wholly west is taken");
+    tally.expect(lent.boxes == [-7, -7, -5, -5], "its box is wholly west");
+}
+
+/// 01's claims on one random network.
+fn claims(tally: &mut Tally, random: &mut Random) {
+    let (n, m) = (random.between(1, 7), random.between(0, 14));
+    let mut lent = plan(random, n, m);
+    let texts = (gr_text(random, &lent), co_text(random, &lent));
+    let mut read = rows_for_reading();
+    (read.n, read.m) = read_gr(&texts.0, &mut read).unwrap_or((0, 0));
+    tally.expect(read_co(&texts.1, &mut read).is_ok(), "a plan's texts are accepted");
+    tally.expect(read.tails.starts_with(&lent.tails), "tails are read back");
+    tally.expect(read.heads.starts_with(&lent.heads), "heads are read back");
+    tally.expect(read.weights.starts_with(&lent.weights), "weights are read back");
+    tally.expect(read.x.starts_with(&lent.x) && read.y.starts_with(&lent.y), "places are read back");
+
+    tally.expect(check(&lent).is_ok(), "built boxes pass check");
+    tally.expect(tight_is_smallest(&lent), "no side of a built box can be moved inward");
+    lengths_agree(tally, &lent);
+    change_boxes(random, &mut lent);
+    if check(&lent).is_ok() {
+        searches_agree(tally, &mut lent);
+    }
+    let asked = ask(random, &lent);
+    let old = lent.boxes.clone();
+    if lent.m > 0 {
+        tally.expect(update(&mut lent, asked.arc, asked.weight).is_ok(), "an update is taken");
+        tally.expect(check(&lent).is_ok(), "updated boxes pass check");
+        let kept = old.chunks(4).zip(lent.boxes.chunks(4)).all(|(old, new)| {
+            let (old, new) = (Rectangle::from_sides(old), Rectangle::from_sides(new));
+            old.hull(&new) == new
+        });
+        tally.expect(kept, "updated boxes hold the old ones");
+        searches_agree(tally, &mut lent);
+    }
+    let (before, reply) = (lent.clone(), search(&mut lent.clone(), asked.s, asked.t));
+    add_surplus(random, &mut lent);
+    tally.expect(search(&mut lent, asked.s, asked.t) == reply, "surplus is not read");
+    tally.expect(lent.boxes.starts_with(&before.boxes), "a search leaves the boxes alone");
+}
+
+/// Every side of a tight box touches the head or a node of S(e).
+fn tight_is_smallest(lent: &Lent) -> bool {
+    let arcs = arcs(lent);
+    arcs.iter().zip(all_s(lent.n as usize, &arcs)).zip(lent.boxes.chunks(4)).all(|((arc, mut s), sides)| {
+        s.push(arc.head);
+        let touched = |row: &[i64], side: i64| s.iter().any(|node| row[node - 1] == side);
+        [&lent.x, &lent.x, &lent.y, &lent.y].iter().zip(sides).all(|(row, side)| touched(row, *side))
+    })
+}
+
+/// Lengths by walks of counted arcs, by Floyd and Warshall and by trying every way without a repeated node.
+fn lengths_agree(tally: &mut Tally, lent: &Lent) {
+    let (n, arcs) = (lent.n as usize, arcs(lent));
+    let d = lengths(n, &arcs);
+    for s in 1..=n {
+        let labels = labels(n, &arcs, s);
+        let lengths: Vec<_> = labels.iter().map(|label| label.map(|(d, _)| d)).collect();
+        tally.expect(lengths == d[s], "two ways of computing lengths agree");
+        if n <= 4 {
+            let mut best = vec![None; n + 1];
+            try_every_way(&arcs, s, (0, 0), &mut vec![s], &mut best);
+            tally.expect(best == labels, "lengths and arc counts are the least of all ways");
+        }
+    }
+}
+
+/// Notes the least length and then the fewest arcs of the ways that go on from node u.
+fn try_every_way(
+    arcs: &[Arc],
+    u: usize,
+    way: (i64, usize),
+    passed: &mut Vec<usize>,
+    best: &mut [Option<(i64, usize)>],
+) {
+    if best[u].map_or(true, |known| way < known) {
+        best[u] = Some(way);
+    }
+    for arc in arcs.iter().filter(|arc| arc.tail == u) {
+        if !passed.contains(&arc.head) {
+            passed.push(arc.head);
+            try_every_way(arcs, arc.head, (way.0 + arc.weight, way.1 + 1), passed, best);
+            passed.pop();
+        }
+    }
+}
+
+/// After a pass of check the boxed search equals the plain one in length and route, and the route is a way.
+fn searches_agree(tally: &mut Tally, lent: &mut Lent) {
+    let arcs = arcs(lent);
+    for s in 1..=lent.n {
+        for t in 1..=lent.n {
+            match (search(lent, s, t), boxed(lent, s, t)) {
+                (Ok(plain), Ok(boxed)) => {
+                    tally.expect(plain.length == boxed.length, "the searches agree in length");
+                    tally.expect(plain.route == boxed.route, "the searches agree in route");
+                    let on_route = plain.route.iter().map(|number| &arcs[number - 1]);
+                    let end = on_route.clone().fold(Some(s as usize), |at, arc| {
+                        at.filter(|at| *at == arc.tail).and(Some(arc.head))
+                    });
+                    tally.expect(end == Some(t as usize), "the route leads from source to target");
+                    let length: i64 = on_route.map(|arc| arc.weight).sum();
+                    tally.expect(length == plain.length, "the route has the length");
+                    tally.expect(boxed.settled <= plain.settled, "boxes settle no more nodes");
+                }
+                (plain, boxed) => {
+                    tally.expect(plain.is_err() && boxed.is_err(), "no walk is lost or found by boxes");
+                }
+            }
+        }
+    }
+}
+
+/// The recorded cases have every refusal and every fault; the small cases have all but the longest line.
+fn coverage(tally: &mut Tally) {
+    let scratch = Scratch::new();
+    let mut random = Random::new(2);
+    let small: Vec<Case> = (0..1_500).map(|number| small(&mut random, &format!("small{number}"))).collect();
+    for (name, case) in [("recorded", recorded(1)), ("small", Case::together(&small))] {
+        scratch.write(&case.files);
+        let output = String::from_utf8(scratch.demanded(&case.input())).expect("replies are plain text");
+        tally.expect(output.lines().count() == case.lines.len(), format!("{name}: a reply to each line"));
+        let spaced = output.lines().any(|line| line.ends_with(' '));
+        tally.expect(!spaced, format!("{name}: no reply ends in a space"));
+        let replies: BTreeSet<&str> = output.lines().collect();
+        for refusal in 0..=13 {
+            let begin = format!("refused {refusal} ");
+            tally.expect(replies.iter().any(|reply| reply.starts_with(&begin)), format!("{name}: {begin}"));
+        }
+        for words in FAULT_WORDS {
+            let too_long = name == "small" && words == FAULT_WORDS[Fault::LongLine as usize];
+            let seen = replies.contains(format!("? {words}").as_str());
+            tally.expect(seen || too_long, format!("{name}: {words}"));
+        }
+    }
+}

@@ -1,0 +1,27 @@
+//! The limits of 01, 'Sizes'.
+
+pub const NODES: i64 = 512;
+pub const ARCS: i64 = 2_048;
+pub const WEIGHT: i64 = 1_000_000;
+pub const COORDINATE: i64 = 1_000_000;
+pub const TEXT_BYTES: usize = 65_536;
+
+pub fn is_node_count(n: i64) -> bool {
+    (1..=NODES).contains(&n)
+}
+
+pub fn is_arc_count(m: i64) -> bool {
+    (0..=ARCS).contains(&m)
+}
+
+pub fn is_node(node: i64, n: i64) -> bool {
+    (1..=n).contains(&node)
+}
+
+pub fn is_weight(weight: i64) -> bool {
+    (0..=WEIGHT).contains(&weight)
+}
+
+pub fn is_coordinate(value: i64) -> bool {
+    (-COORDINATE..=COORDINATE).contains(&value)
+}

@@ -1,0 +1,182 @@
+//! The readers of .gr and .co: bytes split into lines, lines into fields.
+
+use crate::lent::{fill, Lent};
+use crate::refusals::{refused, Refusal};
+use crate::sizes::*;
+
+/// Lines end in byte 10; the last may lack it, and a text ending in it has no further line.
+pub fn lines(text: &[u8]) -> Vec<&[u8]> {
+    let mut lines: Vec<&[u8]> = text.split(|byte| *byte == b'\n').collect();
+    if lines.last() == Some(&&b""[..]) {
+        lines.pop();
+    }
+    lines
+}
+
+/// Fields are divided by exactly one space; two spaces leave an empty field, which no form has.
+pub fn fields(line: &[u8]) -> Vec<&[u8]> {
+    line.split(|byte| *byte == b' ').collect()
+}
+
+fn is_comment(line: &[u8]) -> bool {
+    fields(line)[0] == b"c"
+}
+
+/// The value of a number without sign, if it is well formed.
+/// A value that `i64` cannot hold stays at the greatest `i64`, far above every limit.
+pub fn number(field: &[u8]) -> Option<i64> {
+    let leading_zero = field.len() > 1 && field[0] == b'0';
+    if field.is_empty() || leading_zero || !field.iter().all(u8::is_ascii_digit) {
+        return None;
+    }
+    Some(
+        field
+            .iter()
+            .fold(0i64, |value, digit| value.saturating_mul(10).saturating_add((digit - b'0') as i64)),
+    )
+}
+
+/// The value of a number that may have one leading minus; `-0` is malformed.
+pub fn signed_number(field: &[u8]) -> Option<i64> {
+    match field.strip_prefix(b"-") {
+        Some(digits) => number(digits).filter(|value| *value != 0).map(|value| -value),
+        None => number(field),
+    }
+}
+
+/// A line of .gr that is not a comment.
+enum GrLine {
+    Problem(i64, i64),
+    Arc(i64, i64, i64),
+}
+
+fn gr_line(line: &[u8]) -> Option<GrLine> {
+    match fields(line)[..] {
+        [b"p", b"sp", n, m] => Some(GrLine::Problem(number(n)?, number(m)?)),
+        [b"a", u, v, w] => Some(GrLine::Arc(number(u)?, number(v)?, number(w)?)),
+        _ => None,
+    }
+}
+
+/// A line of .co that is not a comment.
+enum CoLine {
+    Problem(i64),
+    Node(i64, i64, i64),
+}
+
+fn co_line(line: &[u8]) -> Option<CoLine> {
+    match fields(line)[..] {
+        [b"p", b"aux", b"sp", b"co", n] => Some(CoLine::Problem(number(n)?)),
+        [b"v", id, x, y] => Some(CoLine::Node(number(id)?, signed_number(x)?, signed_number(y)?)),
+        _ => None,
+    }
+}
+
+/// Refusals 1 and 2: the text's bytes, then the places of the rows lent to a reader.
+fn judge_sizes(text: &[u8], rows: &[&Vec<i64>], places: i64) -> Result<(), Refusal> {
+    if text.len() > TEXT_BYTES {
+        return refused(1, &[]);
+    }
+    if rows.iter().any(|row| (row.len() as i64) < places) {
+        return refused(2, &[]);
+    }
+    Ok(())
+}
+
+/// Reads a .gr text into tails, heads and weights; returns n and m.
+pub fn read_gr(text: &[u8], lent: &mut Lent) -> Result<(i64, i64), Refusal> {
+    judge_sizes(text, &[&lent.tails, &lent.heads, &lent.weights], ARCS)?;
+    let mut counts = None;
+    let mut arcs: Vec<(i64, i64, i64)> = Vec::new();
+    let mut at = 1;
+    for line in lines(text) {
+        if !is_comment(line) {
+            match gr_line(line) {
+                None => return refused(3, &[at]),
+                Some(GrLine::Problem(n, m)) => {
+                    if counts.is_some() {
+                        return refused(4, &[at]);
+                    }
+                    if !is_node_count(n) || !is_arc_count(m) {
+                        return refused(5, &[at]);
+                    }
+                    counts = Some((n, m));
+                }
+                Some(GrLine::Arc(u, v, w)) => {
+                    let Some((n, m)) = counts else {
+                        return refused(4, &[at]);
+                    };
+                    if !is_node(u, n) || !is_node(v, n) || !is_weight(w) {
+                        return refused(5, &[at]);
+                    }
+                    if arcs.len() as i64 == m {
+                        return refused(6, &[at]);
+                    }
+                    arcs.push((u, v, w));
+                }
+            }
+        }
+        at += 1;
+    }
+    match counts {
+        Some((n, m)) if arcs.len() as i64 == m => {
+            fill(&mut lent.tails, arcs.iter().map(|arc| arc.0));
+            fill(&mut lent.heads, arcs.iter().map(|arc| arc.1));
+            fill(&mut lent.weights, arcs.iter().map(|arc| arc.2));
+            Ok((n, m))
+        }
+        _ => refused(6, &[at]),
+    }
+}
+
+/// Reads a .co text into x and y, for the n that the graph had.
+pub fn read_co(text: &[u8], lent: &mut Lent) -> Result<(), Refusal> {
+    judge_sizes(text, &[&lent.x, &lent.y], NODES)?;
+    let n = lent.n;
+    if !is_node_count(n) {
+        return refused(5, &[0]);
+    }
+    let mut problem_seen = false;
+    let mut places: Vec<Option<(i64, i64)>> = vec![None; n as usize];
+    let mut at = 1;
+    for line in lines(text) {
+        if !is_comment(line) {
+            match co_line(line) {
+                None => return refused(3, &[at]),
+                Some(CoLine::Problem(nodes)) => {
+                    if problem_seen {
+                        return refused(4, &[at]);
+                    }
+                    if !is_node_count(nodes) {
+                        return refused(5, &[at]);
+                    }
+                    if nodes != n {
+                        return refused(6, &[at]);
+                    }
+                    problem_seen = true;
+                }
+                Some(CoLine::Node(id, x, y)) => {
+                    if !problem_seen {
+                        return refused(4, &[at]);
+                    }
+                    if !is_node(id, n) || !is_coordinate(x) || !is_coordinate(y) {
+                        return refused(5, &[at]);
+                    }
+                    let place = &mut places[id as usize - 1];
+                    if place.is_some() {
+                        return refused(7, &[at]);
+                    }
+                    *place = Some((x, y));
+                }
+            }
+        }
+        at += 1;
+    }
+    let places: Vec<(i64, i64)> = places.into_iter().flatten().collect();
+    if !problem_seen || (places.len() as i64) < n {
+        return refused(6, &[at]);
+    }
+    fill(&mut lent.x, places.iter().map(|place| place.0));
+    fill(&mut lent.y, places.iter().map(|place| place.1));
+    Ok(())
+}

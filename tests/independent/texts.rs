@@ -1,0 +1,128 @@
+//! Texts of a plan, and what can be wrong with a text.
+
+use crate::lent::Lent;
+use crate::random::Random;
+use crate::sizes::TEXT_BYTES;
+use crate::text::{fields, lines};
+
+/// A .gr text of the plan, with comments here and there.
+pub fn gr_text(random: &mut Random, lent: &Lent) -> Vec<u8> {
+    let mut text = vec![format!("p sp {} {}", lent.n, lent.m).into_bytes()];
+    for e in 0..lent.m as usize {
+        text.push(format!("a {} {} {}", lent.tails[e], lent.heads[e], lent.weights[e]).into_bytes());
+    }
+    with_comments(random, text)
+}
+
+/// A .co text of the plan, its nodes in any order.
+pub fn co_text(random: &mut Random, lent: &Lent) -> Vec<u8> {
+    let mut text = vec![format!("p aux sp co {}", lent.n).into_bytes()];
+    for v in 0..lent.n as usize {
+        let at = random.between(1, text.len() as i64) as usize;
+        text.insert(at, format!("v {} {} {}", v + 1, lent.x[v], lent.y[v]).into_bytes());
+    }
+    with_comments(random, text)
+}
+
+fn with_comments(random: &mut Random, mut text: Vec<Vec<u8>>) -> Vec<u8> {
+    for _ in 0..random.below(3) {
+        let at = random.below(text.len() + 1);
+        let comment: &[u8] =
+            random.pick(&[&b"c"[..], b"c ", b"c  two spaces", b"c a 1 2 3", b"c \r\t\0\xff -"]);
+        text.insert(at, comment.to_vec());
+    }
+    ended(&text)
+}
+
+/// The lines, each ended by byte 10.
+fn ended(lines: &[Vec<u8>]) -> Vec<u8> {
+    lines.iter().flat_map(|line| [line, &b"\n"[..]].concat()).collect()
+}
+
+/// Bytes and fields that a reader may judge wrongly.
+const BYTES: &[u8] = b" \n\r\t-+0179acpvx\0\x7f\xff";
+#[rustfmt::skip]
+const FIELDS: [&[u8]; 22] = [
+    b"", b"-", b"-0", b"+1", b"07", b"00", b"-07", b"--1", b"1.0", b"0", b"1", b"-1",
+    b"512", b"513", b"2048", b"2049", b"1000000", b"1000001", b"-1000000", b"-1000001",
+    b"4294967297", b"18446744073709551617",
+];
+
+/// Lines that are refused in some places for more than one reason.
+#[rustfmt::skip]
+const LINES: [&[u8]; 20] = [
+    b"", b" ", b"c", b"cx", b"c\t", b"c\r", b"d 1 1 1",
+    b"p sp 3 3", b"p sp 0 0", b"p sp 513 -1", b"p aux sp co 3", b"p aux sp co 513",
+    b"a 1 1 1", b"a 0 9 1", b"a 1 1 1000001", b"a 1 1 -1",
+    b"v 1 1 1", b"v 1 1 1000001", b"v 0 1 -1", b"v 1 1 -0",
+];
+
+/// Makes one thing wrong with a text, or at least other.
+pub fn damage(random: &mut Random, text: &[u8]) -> Vec<u8> {
+    let mut text = text.to_vec();
+    let mut split: Vec<Vec<u8>> = lines(&text).into_iter().map(<[u8]>::to_vec).collect();
+    let byte = random.pick(BYTES);
+    let line_like = random.pick(&LINES).to_vec();
+    if split.is_empty() {
+        return line_like;
+    }
+    let (at, other) = (random.below(split.len()), random.below(split.len()));
+    let place = random.below(text.len());
+    match random.below(20) {
+        0 => text[place] = byte,
+        1 => text.insert(place, byte),
+        2 => drop(text.remove(place)),
+        3 => text.truncate(place),
+        4 => drop(text.pop()),
+        5 => text.clear(),
+        6 => text.extend(line_like),
+        7 => text = padded(random, &text),
+        kind => {
+            match kind {
+                8 => drop(split.remove(at)),
+                9 => split.insert(other, split[at].clone()),
+                10 => split.swap(at, other),
+                11 => split[at].push(random.pick(b"\r\t ")),
+                12 => split[at].insert(0, b' '),
+                13 => split.insert(at, line_like),
+                // The p line is dropped, doubled or moved.
+                14 | 15 => {
+                    if let Some(problem) = split.iter().position(|line| line.starts_with(b"p ")) {
+                        let line = split[problem].clone();
+                        if !random.once_in(3) {
+                            split.remove(problem);
+                        }
+                        if !random.once_in(3) {
+                            split.insert(random.below(split.len() + 1), line);
+                        }
+                    }
+                }
+                _ => split[at] = with_other_field(random, &split[at]),
+            }
+            text = ended(&split);
+        }
+    }
+    text
+}
+
+/// The line with one field changed, or with another byte or a second space between two fields.
+fn with_other_field(random: &mut Random, line: &[u8]) -> Vec<u8> {
+    let mut words: Vec<Vec<u8>> = fields(line).into_iter().map(<[u8]>::to_vec).collect();
+    let at = random.below(words.len());
+    match random.below(8) {
+        0 => words[at].insert(0, b'0'),
+        1 => words[at].insert(0, b'-'),
+        2 => words[at] = vec![random.pick(b"19"); random.pick(&[10, 20, 60, 6_000, 60_000])],
+        3 => words[at].extend(b"0000000000"),
+        4 => words[at].insert(0, random.pick(b"\t \r")),
+        _ => words[at] = random.pick(&FIELDS).to_vec(),
+    }
+    words.join(&b' ')
+}
+
+/// The text after a comment that brings it to the limit of bytes, or one byte to either side.
+fn padded(random: &mut Random, text: &[u8]) -> Vec<u8> {
+    let bytes = TEXT_BYTES - 1 + random.below(3);
+    let letters = bytes.saturating_sub(text.len() + 3);
+    [b"c ", &vec![b'x'; letters][..], b"\n", text].concat()
+}
