@@ -1,0 +1,89 @@
+-- How labels begin, are marked and are changed, as the mathematics of searches sees it. Assumes nothing.
+use Prim.Native.Nat.{ℕ, _+_, _-_, _<_, _≤_}
+use native.Mathlib.Omega.{arith}
+use native.Mathlib.Decide.{ℕ-discrete}
+use mathlib.Core.Bool.{Bool, true, false, false≢true}
+use mathlib.Core.Path.{_≡_, refl, sym, _∙_}
+use mathlib.Core.Logic.{_≢_}
+use mathlib.Core.List.{List}
+use lib.ListN.{length, getD, set, replicate, length-set, length-replicate, getD-replicate}
+use lib.Seq.{getD-set-same, getD-set-other}
+use Rattle.walks.specs.Marking.{Started, Marked}
+use Rattle.walks.specs.Relaxing.{Relabelled}
+use Rattle.settling.specs.declared.Labels.{Labels}
+use Rattle.settling.specs.Labels.{none, startOf, labelled, marked, lengthOf, arcsOf, settledOf}
+use Rattle.settling.specs.Seen.{seen}
+
+-- each array has its 512 places
+pub record Full (L : Labels) : Type 0 where
+  pub lengths : length (L .length) ≡ 512
+  pub counts : length (L .arcs) ≡ 512
+  pub marks : length (L .settled) ≡ 512
+
+pub full-start : (s : ℕ) → Full (startOf s)
+unfolding startOf
+full-start s = record {
+  lengths = length-set (replicate 512 none) (s - 1) 0 ∙ length-replicate 512 none;
+  counts = length-replicate {A = ℕ} 512 0;
+  marks = length-replicate 512 false;
+}
+
+pub full-labelled : {L : Labels} → Full L → (v l k : ℕ) → Full (labelled L v l k)
+unfolding labelled
+full-labelled f v l k = record { lengths = simp length-set (f .lengths); counts = simp length-set (f .counts); marks = f .marks }
+
+pub full-marked : {L : Labels} → Full L → (u : ℕ) → Full (marked L u)
+unfolding marked
+full-marked f u = record { lengths = f .lengths; counts = f .counts; marks = simp length-set (f .marks) }
+
+-- a place of 1..512 stored to, and the others
+module _ {A : Type 0} (row : List A) (v : ℕ) (x d : A) where
+  place-same : 1 ≤ v → v ≤ 512 → length row ≡ 512 → getD (set row (v - 1) x) (v - 1) d ≡ x
+  place-same low high long = getD-set-same row (v - 1) x d (omega arith)
+
+  place-other : 1 ≤ v → (w : ℕ) → 1 ≤ w → w ≢ v → getD (set row (v - 1) x) (w - 1) d ≡ getD row (w - 1) d
+  place-other low w low′ other = getD-set-other row (v - 1) (w - 1) x d (omega arith)
+
+module _ (n : ℕ) (most : n ≤ 512) where
+  pub seen-start : (s : ℕ) → 1 ≤ s → s ≤ n → Started (seen n (startOf s)) s
+  unfolding seen startOf
+  seen-start s low high =
+      let here = place-same (replicate 512 none) s 0 0 low (omega arith) (length-replicate 512 none) in
+      record {
+        labelled = (low, high, omega arith);
+        length = here;
+        arcs = getD-replicate 512 (s - 1) 0 0 (omega arith);
+        alone = λ v x. elim (ℕ-discrete v s) [
+          | yes e ↦ e
+          | no e ↦ absurd (omega (arith, x .2, place-other (replicate 512 none) s 0 0 low v (x .0) e, getD-replicate 512 (v - 1) none 0 (omega (arith, x .1))))
+        ];
+        none = λ v x. false≢true (sym (getD-replicate 512 (v - 1) false false (omega (arith, x .0, x .1))) ∙ x .2);
+      }
+
+  module _ {L : Labels} (full : Full L) where
+    pub seen-marked : (u : ℕ) → 1 ≤ u → u ≤ n → Marked (seen n L) (seen n (marked L u)) u
+    unfolding seen marked
+    seen-marked u low high =
+        let other = place-other (L .settled) u true false low in
+        record {
+          now = (low, high, place-same (L .settled) u true false low (omega arith) (full .marks));
+          settled = λ x apart. ((λ d. (d .0, d .1, other x (d .0) apart ∙ d .2)), (λ d. (d .0, d .1, sym (other x (d .0) apart) ∙ d .2)));
+          labelled = λ x. ((λ y. y), (λ y. y));
+          length = λ x. refl;
+          arcs = λ x. refl;
+        }
+
+    pub seen-labelled : (v l k : ℕ) → 1 ≤ v → v ≤ n → l < none → Relabelled (seen n L) (seen n (labelled L v l k)) v l k
+    unfolding seen labelled
+    seen-labelled v l k low high near =
+        let here = place-same (L .length) v l 0 low (omega arith) (full .lengths) in
+        let other = place-other (L .length) v l 0 low in
+        record {
+          now = (low, high, omega arith);
+          now-length = sym here;
+          now-arcs = sym (place-same (L .arcs) v k 0 low (omega arith) (full .counts));
+          labelled = λ x apart. ((λ y. (y .0, y .1, omega (arith, other x (y .0) apart, y .2))), (λ y. (y .0, y .1, omega (arith, other x (y .0) apart, y .2))));
+          length = λ x y apart. sym (other x (y .0) apart);
+          arcs = λ x y apart. sym (place-other (L .arcs) v k 0 low x (y .0) apart);
+          settled = λ x. ((λ y. y), (λ y. y));
+        }

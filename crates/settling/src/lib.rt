@@ -1,0 +1,27 @@
+// The search by labels: label arrays, the settling step, the run, and the route traced back.
+
+// For each of 512 nodes: its length, its arc count and its settled mark. Length 4294967295 marks a node without a label.
+pub struct Labels {
+    pub length: [u32; 512],
+    pub arcs: [u32; 512],
+    pub settled: [bool; 512],
+}
+
+// The node to be settled next, or that none is left.
+pub enum Pick {
+    Node(usize),
+    Nothing,
+}
+
+// What a run ends with: the labels, how many nodes it settled (its target counted), and whether it found its target.
+pub struct Outcome {
+    pub labels: Labels,
+    pub count: usize,
+    pub found: bool,
+}
+
+// The arc by which a node has its label, or that there is none.
+pub enum Into {
+    Arc(usize),
+    Nothing,
+}
