@@ -1,5 +1,6 @@
 -- What the code of `settling` computes, step by step, and why that answers a search.
 pub mod Choice
+pub mod Toward
 pub mod Labels
 pub mod LabelsLaws
 pub mod Settle

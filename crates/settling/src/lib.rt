@@ -1,4 +1,12 @@
 // The search by labels: label arrays, the settling step, the run, and the route traced back.
+ghost use mathlib.Core.Path.{_≡_};
+ghost use Prim.Native.Nat.{_≤_};
+ghost use Rattle.settling.specs.Toward.{Room, keeps};
+
+pub mod settle;
+pub mod nearest;
+pub mod run;
+pub mod trace;
 
 // For each of 512 nodes: its length, its arc count and its settled mark. Length 4294967295 marks a node without a label.
 pub struct Labels {
@@ -24,4 +32,21 @@ pub struct Outcome {
 pub enum Into {
     Arc(usize),
     Nothing,
+}
+
+// Which arcs a search may use: all, or only those whose box holds a place.
+pub enum Toward {
+    Anywhere,
+    Place(i32, i32),
+}
+
+// Whether a search may use arc `e`.
+pub fn passes(toward: Toward, boxes: &[i32], e: usize) -> bool
+    requires { ⌜ (1 ≤ e) × Room toward e (now boxes) ⌝ }
+    ensures { λ r. ⌜ r ≡ keeps toward (now (boxes .entry)) e ⌝ }
+{
+    match toward {
+        Toward::Anywhere => true,
+        Toward::Place(x, y) => geometry::holds(boxes, e, x, y),
+    }
 }

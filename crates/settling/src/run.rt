@@ -1,0 +1,57 @@
+// The run: node after node is settled.
+ghost use mathlib.Core.Path.{_≡_};
+ghost use Prim.Native.Nat.{_≤_};
+ghost use Rattle.walks.specs.Rows.{Sound};
+ghost use Rattle.settling.specs.Run.{searchOf};
+ghost use Rattle.settling.specs.Toward.{rows, Room, keeps};
+use crate::Labels;
+use crate::Outcome;
+use crate::Pick;
+use crate::Toward;
+use crate::nearest::nearest;
+use crate::settle::settle;
+use crate::settle::start;
+
+// Settles node after node from `s` on, until the next is the target `t` or none is left. Target 0 is never found: all
+// that can be reached is labelled.
+pub fn run(
+    s: usize,
+    t: usize,
+    n: usize,
+    m: usize,
+    tails: &[u32],
+    heads: &[u32],
+    weights: &[u32],
+    toward: Toward,
+    boxes: &[i32],
+) -> Outcome
+    requires { ⌜ (1 ≤ s) × (s ≤ n) × Sound n m (rows (now tails) (now heads) (now weights)) × Room toward m (now boxes) ⌝ }
+    ensures { λ r. ⌜ r ≡ searchOf (rows (now (tails .entry)) (now (heads .entry)) (now (weights .entry))) (keeps toward (now (boxes .entry))) n m t s ⌝ }
+{
+    let mut labels = start(s);
+    let mut count: usize = 0;
+    while count < n {
+        let p = nearest(labels, n);
+        let Pick::Node(u) = p else {
+            return Outcome {
+                labels,
+                count,
+                found: false,
+            };
+        };
+        if u == t {
+            return Outcome {
+                labels,
+                count: count + 1,
+                found: true,
+            };
+        }
+        labels = settle(labels, u, m, tails, heads, weights, toward, boxes);
+        count += 1;
+    }
+    Outcome {
+        labels,
+        count,
+        found: false,
+    }
+}

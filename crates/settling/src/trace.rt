@@ -1,0 +1,82 @@
+// The route, traced back from the target by the labels.
+ghost use mathlib.Core.Path.{_≡_};
+ghost use Prim.Native.Nat.{_≤_};
+ghost use lib.ListN.{length};
+ghost use Rattle.walks.specs.Rows.{Sound};
+ghost use Rattle.settling.specs.Labels.{arcsOf};
+ghost use Rattle.settling.specs.Trace.{fits, intoOf, traceOf};
+ghost use Rattle.settling.specs.Toward.{rows, Room, keeps};
+use crate::Into;
+use crate::Labels;
+use crate::Toward;
+
+// Whether a step of weight w leads from the label (l, k) to (l2, k2).
+fn leads(l: u32, k: u32, w: u32, l2: u32, k2: u32) -> bool
+    ensures { λ r. ⌜ r ≡ fits l k w l2 k2 ⌝ }
+{
+    if l as u64 + w as u64 == l2 as u64 {
+        return k as u64 + 1 == k2 as u64;
+    }
+    false
+}
+
+// The lowest-numbered arc by which node `v` has its label.
+pub fn arc_into(
+    labels: Labels,
+    v: usize,
+    m: usize,
+    tails: &[u32],
+    heads: &[u32],
+    weights: &[u32],
+    toward: Toward,
+    boxes: &[i32],
+) -> Into
+    requires { ⌜ (1 ≤ v) × (v ≤ 512) × Sound 512 m (rows (now tails) (now heads) (now weights)) × Room toward m (now boxes) ⌝ }
+    ensures { λ r. ⌜ r ≡ intoOf (rows (now (tails .entry)) (now (heads .entry)) (now (weights .entry))) (keeps toward (now (boxes .entry))) labels v m ⌝ }
+{
+    let l = labels.length[v - 1];
+    let k = labels.arcs[v - 1];
+    let mut j: usize = 0;
+    while j < m {
+        if heads[j] as usize == v {
+            if crate::passes(toward, boxes, j + 1) {
+                let u = tails[j] as usize - 1;
+                let from_l = labels.length[u];
+                let from_k = labels.arcs[u];
+                if leads(from_l, from_k, weights[j], l, k) {
+                    return Into::Arc(j + 1);
+                }
+            }
+        }
+        j += 1;
+    }
+    Into::Nothing
+}
+
+// Writes the route to `t`, source first, into the first places of `route`; the others keep their contents.
+pub fn trace(
+    labels: Labels,
+    t: usize,
+    m: usize,
+    tails: &[u32],
+    heads: &[u32],
+    weights: &[u32],
+    toward: Toward,
+    boxes: &[i32],
+    route: &mut [u32],
+)
+    requires { ⌜ (1 ≤ t) × (t ≤ 512) × Sound 512 m (rows (now tails) (now heads) (now weights)) × Room toward m (now boxes) × (arcsOf labels t ≤ length (now route)) ⌝ }
+    ensures { λ _. ⌜ now (route .exit) ≡ traceOf (rows (now (tails .entry)) (now (heads .entry)) (now (weights .entry))) (keeps toward (now (boxes .entry))) m labels (arcsOf labels t) t (now (route .entry)) ⌝ }
+{
+    let mut v = t;
+    let mut k = labels.arcs[t - 1] as usize;
+    while 0 < k {
+        let into = arc_into(labels, v, m, tails, heads, weights, toward, boxes);
+        let Into::Arc(e) = into else {
+            return;
+        };
+        k -= 1;
+        route[k] = e as u32;
+        v = tails[e - 1] as usize;
+    }
+}
