@@ -1,0 +1,3 @@
+pub mod DrawnLaws
+pub mod Steps
+pub mod MissedLaws
