@@ -17,3 +17,5 @@ pub mod SeenLaws
 pub mod SettleIs
 pub mod RunIs
 pub mod TraceIs
+pub mod Right
+pub mod LengthsTo

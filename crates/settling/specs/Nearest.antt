@@ -1,7 +1,7 @@
 -- The node to be settled next: of the labelled nodes not settled, the one whose label comes first, the lower number of two alike.
 -- Assumes nothing.
 use Prim.Native.Nat.{ℕ, zero, suc, _+_}
-use mathlib.Core.Bool.{Bool, false, not, cond, _&&_}
+use mathlib.Core.Bool.{false, not, cond, _&&_}
 use lib.ListN.{getD}
 use lib.Dec.{eqb}
 use Rattle.settling.specs.declared.Labels.{Labels}

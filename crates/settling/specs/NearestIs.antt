@@ -4,13 +4,11 @@ use native.Mathlib.Omega.{arith}
 use native.Mathlib.Decide.{decLt}
 use mathlib.Core.Bool.{Bool, true, false, not, _&&_, false≢true}
 use mathlib.Core.Path.{_≡_, refl, sym, subst, ap, _∙_}
-use mathlib.Core.Logic.{_⊎_, inl, inr, ⊎-elim}
+use mathlib.Core.Logic.{_⊎_, inl, inr}
 use borrow.Author.Tests.{not-true}
-use Rattle.walks.specs.Order.{NotAfter}
-use Rattle.walks.specs.Settling.{Labelling, Next}
+use Rattle.walks.specs.Settling.{Next}
 use Rattle.walks.specs.Scanning.{NoneBelow, NextBelow, none-pass, next-pass, none-take, next-keep, next-take, next-found, none-found}
 use Rattle.settling.specs.declared.Labels.{Labels}
-use Rattle.settling.specs.declared.Pick.{Pick}
 use Rattle.settling.specs.declared.Pick.the-variants.{Node, Nothing}
 use Rattle.settling.specs.Choice.{either, cond-by, and-true, and-yes}
 use Rattle.settling.specs.Labels.{none, lengthOf, arcsOf, settledOf, before}
@@ -123,13 +121,3 @@ module _ (n : ℕ) (L : Labels) where
         let y : _≡_ {A = ℕ} 0 1 = cc in
         absurd (omega arith)
   ]
-
--- the next node is one of 1..n and has a label
-pub record Picked (L : Labels) (n u : ℕ) : Type 0 where
-  pub low : 1 ≤ u
-  pub high : u ≤ n
-  pub has : lengthOf L u < none
-
-pub picked : (L : Labels) (n u : ℕ) → nearestOf L n ≡ Node u → Picked L n u
-unfolding seen
-picked L n u e = let known = nearest-next n L e .labelled in record { low = known .0; high = known .1; has = known .2 }

@@ -27,3 +27,7 @@ module _ (R : Rows) (keep : ℕ → Bool) (n m t : ℕ) where
   -- the search from s
   abbrev pub searchOf : ℕ → Outcome
   searchOf s = runOf n 0 (startOf s)
+
+-- the labels of all that can be reached from s
+abbrev pub labelsOf : Rows → (ℕ → Bool) → ℕ → ℕ → ℕ → Labels
+labelsOf R keep n m s = searchOf R keep n m 0 s .labels

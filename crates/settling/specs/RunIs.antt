@@ -58,7 +58,7 @@ pub record Ready (n : ℕ) (L : Labels) (u : ℕ) : Type 0 where
 
 module _ {R : Rows} {n m : ℕ} (sound : Sound n m R) {keep : ℕ → Bool} {s : ℕ} where
   pub stage-start : 1 ≤ s → s ≤ n → Stage R keep n m s 0 (startOf s)
-  stage-start low high = record { progress = started n (seen-start n (sound .nodes-high) s low high); full = full-start s }
+  stage-start low high = record { progress = started n (seen-start n (sound .nodes-high) s low high); full = full-start s low (omega arith) }
 
   module _ {c u : ℕ} {L : Labels} (stage : Stage R keep n m s c L) (picked : nearestOf L n ≡ Node u) where
     pub ready : Ready n L u

@@ -1,8 +1,8 @@
 -- How labels begin, are marked and are changed, as the mathematics of searches sees it. Assumes nothing.
-use Prim.Native.Nat.{ℕ, _+_, _-_, _<_, _≤_}
+use Prim.Native.Nat.{ℕ, _-_, _<_, _≤_}
 use native.Mathlib.Omega.{arith}
 use native.Mathlib.Decide.{ℕ-discrete}
-use mathlib.Core.Bool.{Bool, true, false, false≢true}
+use mathlib.Core.Bool.{true, false, false≢true}
 use mathlib.Core.Path.{_≡_, refl, sym, _∙_}
 use mathlib.Core.Logic.{_≢_}
 use mathlib.Core.List.{List}
@@ -11,30 +11,8 @@ use lib.Seq.{getD-set-same, getD-set-other}
 use Rattle.walks.specs.Marking.{Started, Marked}
 use Rattle.walks.specs.Relaxing.{Relabelled}
 use Rattle.settling.specs.declared.Labels.{Labels}
-use Rattle.settling.specs.Labels.{none, startOf, labelled, marked, lengthOf, arcsOf, settledOf}
+use Rattle.settling.specs.Labels.{none, startOf, labelled, marked, lengthOf}
 use Rattle.settling.specs.Seen.{seen}
-
--- each array has its 512 places
-pub record Full (L : Labels) : Type 0 where
-  pub lengths : length (L .length) ≡ 512
-  pub counts : length (L .arcs) ≡ 512
-  pub marks : length (L .settled) ≡ 512
-
-pub full-start : (s : ℕ) → Full (startOf s)
-unfolding startOf
-full-start s = record {
-  lengths = length-set (replicate 512 none) (s - 1) 0 ∙ length-replicate 512 none;
-  counts = length-replicate {A = ℕ} 512 0;
-  marks = length-replicate 512 false;
-}
-
-pub full-labelled : {L : Labels} → Full L → (v l k : ℕ) → Full (labelled L v l k)
-unfolding labelled
-full-labelled f v l k = record { lengths = simp length-set (f .lengths); counts = simp length-set (f .counts); marks = f .marks }
-
-pub full-marked : {L : Labels} → Full L → (u : ℕ) → Full (marked L u)
-unfolding marked
-full-marked f u = record { lengths = f .lengths; counts = f .counts; marks = simp length-set (f .marks) }
 
 -- a place of 1..512 stored to, and the others
 module _ {A : Type 0} (row : List A) (v : ℕ) (x d : A) where
@@ -43,6 +21,42 @@ module _ {A : Type 0} (row : List A) (v : ℕ) (x d : A) where
 
   place-other : 1 ≤ v → (w : ℕ) → 1 ≤ w → w ≢ v → getD (set row (v - 1) x) (w - 1) d ≡ getD row (w - 1) d
   place-other low w low′ other = getD-set-other row (v - 1) (w - 1) x d (omega arith)
+
+-- each array has its 512 places, and no length is above the mark of no label
+pub record Full (L : Labels) : Type 0 where
+  pub lengths : length (L .length) ≡ 512
+  pub counts : length (L .arcs) ≡ 512
+  pub marks : length (L .settled) ≡ 512
+  pub most : (v : ℕ) → 1 ≤ v → v ≤ 512 → lengthOf L v ≤ none
+
+set-most : (row : List ℕ) (v x : ℕ) → 1 ≤ v → v ≤ 512 → length row ≡ 512 → x ≤ none
+    → ((w : ℕ) → 1 ≤ w → w ≤ 512 → getD row (w - 1) 0 ≤ none) → (w : ℕ) → 1 ≤ w → w ≤ 512 → getD (set row (v - 1) x) (w - 1) 0 ≤ none
+set-most row v x low high long h old w low′ high′ = elim (ℕ-discrete w v) [
+  | yes e ↦ rw (e, place-same row v x 0 low high long) h
+  | no e ↦ rw (place-other row v x 0 low w low′ e) (old w low′ high′)
+]
+
+pub full-start : (s : ℕ) → 1 ≤ s → s ≤ 512 → Full (startOf s)
+unfolding startOf
+full-start s low high = record {
+  lengths = length-set (replicate 512 none) (s - 1) 0 ∙ length-replicate 512 none;
+  counts = length-replicate {A = ℕ} 512 0;
+  marks = length-replicate 512 false;
+  most = set-most (replicate 512 none) s 0 low high (length-replicate 512 none) (omega arith) (λ w low′ high′. omega (arith, getD-replicate 512 (w - 1) none 0 (omega arith)));
+}
+
+pub full-labelled : {L : Labels} → Full L → (v l k : ℕ) → 1 ≤ v → v ≤ 512 → l ≤ none → Full (labelled L v l k)
+unfolding labelled
+full-labelled {L} f v l k low high h = record {
+  lengths = simp length-set (f .lengths);
+  counts = simp length-set (f .counts);
+  marks = f .marks;
+  most = set-most (L .length) v l low high (f .lengths) h (f .most);
+}
+
+pub full-marked : {L : Labels} → Full L → (u : ℕ) → Full (marked L u)
+unfolding marked
+full-marked f u = record { lengths = f .lengths; counts = f .counts; marks = simp length-set (f .marks); most = f .most }
 
 module _ (n : ℕ) (most : n ≤ 512) where
   pub seen-start : (s : ℕ) → 1 ≤ s → s ≤ n → Started (seen n (startOf s)) s

@@ -2,22 +2,21 @@
 use Prim.Native.Nat.{ℕ, zero, suc, _+_, _-_, _<_, _≤_}
 use native.Mathlib.Omega.{arith}
 use native.Mathlib.Numerals.{add-one}
-use mathlib.Core.Bool.{Bool, true, false, _&&_, false≢true}
+use mathlib.Core.Bool.{Bool, true, _&&_, false≢true}
 use mathlib.Core.Path.{_≡_, refl, sym, subst, ap, _∙_}
 use mathlib.Core.Logic.{_≢_}
 use lib.Dec.{eqb}
 use borrow.Author.Tests.{eqb-true, eq-eqb}
 use Rattle.walks.specs.Walk.{kept}
 use Rattle.walks.specs.Rows.{Rows, at, network, Sound}
-use Rattle.walks.specs.RowsLaws.{sound-within, only-within}
 use Rattle.walks.specs.Order.{notAfter-as}
-use Rattle.walks.specs.Limits.{walk-light, few-arcs}
+use Rattle.walks.specs.Limits.{sound-within, only-within, walk-light, few-arcs}
 use Rattle.walks.specs.Settling.{Progress, All, Next}
 use Rattle.walks.specs.Marking.{Relaxing, settle}
 use Rattle.walks.specs.Relaxing.{relax-none, relax-better, relaxed-all}
 use Rattle.settling.specs.declared.Labels.{Labels}
 use Rattle.settling.specs.Choice.{cond-by, and-true, and-yes}
-use Rattle.settling.specs.Labels.{none, lengthOf, arcsOf, before, labelled, offered, marked}
+use Rattle.settling.specs.Labels.{lengthOf, arcsOf, before, labelled, offered, marked}
 use Rattle.settling.specs.Settle.{arcStep, relaxed, settleOf}
 use Rattle.settling.specs.Seen.{seen, before-true, before-false}
 use Rattle.settling.specs.SeenLaws.{Full, full-labelled, full-marked, seen-marked, seen-labelled}
@@ -52,7 +51,7 @@ module _ {R : Rows} {n m : ℕ} (sound : Sound n m R) {keep : ℕ → Bool} wher
         let apart : u ≢ v = λ e. omega (arith, ap (lengthOf L) e, ap (arcsOf L) e, h .length, h .arcs, less .1 (omega (arith, ap (lengthOf L) e, h .length))) in
         record {
           relaxing = relax-better (h .relaxing) (λ e b q other le. omega arith) ((low, high), usable) from (λ y. rw (h .length, h .arcs) less) (rw (h .length, h .arcs) new);
-          full = full-labelled (h .full) v (l + w) (k + 1);
+          full = full-labelled (h .full) v (l + w) (k + 1) (a .head-low) (omega arith) (omega arith);
           length = sym (new .length u known apart) ∙ h .length;
           arcs = sym (new .arcs u known apart) ∙ h .arcs;
         })

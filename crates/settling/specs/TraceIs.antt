@@ -2,11 +2,11 @@
 use Prim.Native.Nat.{ℕ, zero, suc, _+_, _-_, _<_, _≤_}
 use native.Mathlib.Omega.{arith}
 use native.Mathlib.Numerals.{add-one}
-use mathlib.Core.Bool.{Bool, true, false, false≢true, true≢false}
+use mathlib.Core.Bool.{Bool, true, false≢true, true≢false}
 use mathlib.Core.Path.{_≡_, refl, sym, subst, ap, ap₂, _∙_}
 use mathlib.Core.Logic.{_⊎_, inl, inr}
 use mathlib.Core.List.{List, [], _∷_, _++_, append-assoc}
-use lib.ListN.{length, getD, set, drop, length-set, length-append}
+use lib.ListN.{length, set, drop, length-set, length-append}
 use lib.Seq.{drop-cons, drop-set-lt, getD-set-same}
 use lib.Dec.{eqb}
 use borrow.Author.Tests.{eqb-true, eq-eqb}
@@ -21,7 +21,7 @@ use Rattle.settling.specs.declared.Into.the-variants.{Arc, Nothing}
 use Rattle.settling.specs.Choice.{cond-by, and-true}
 use Rattle.settling.specs.Labels.{none, lengthOf, arcsOf}
 use Rattle.settling.specs.Trace.{fits, arcFits, intoOf, traceOf}
-use Rattle.settling.specs.TraceLaws.{fits-yes, arc-fits, First, first-is, first-none, trace-on}
+use Rattle.settling.specs.TraceLaws.{fits-yes, arc-fits, first-is, first-none, trace-on}
 use Rattle.settling.specs.Seen.{seen}
 use Rattle.settling.specs.SettleIs.{Stage}
 

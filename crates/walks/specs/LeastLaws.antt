@@ -7,7 +7,7 @@ use native.Mathlib.Decide.{decLt}
 use Rattle.walks.specs.Walk.{Net, Walk, empty, reverse}
 use Rattle.walks.specs.WalkLaws.{sized, join, backward}
 use Rattle.walks.specs.Order.{NotAfter}
-use Rattle.walks.specs.Least.{Reached, Dist, Best}
+use Rattle.walks.specs.Least.{Dist, Best}
 
 pub dist-unique : {N : Net} {u t d d′ : ℕ} → Dist N u t d → Dist N u t d′ → d ≡ d′
 dist-unique p q = le-antisymm (p .least _ _ (q .walk)) (q .least _ _ (p .walk))
@@ -51,7 +51,7 @@ least-below : (P : ℕ → Type 0) (bound n : ℕ) → n < bound → P n → ¬ 
 least-below P zero n h p none = omega arith
 least-below P (suc bound) n h p none = none (n, p, λ i q. elim (decLt i n) [ yes lt ↦ absurd (least-below P bound i (omega arith) q none) | no ge ↦ omega arith ])
 
-pub no-least : (P : ℕ → Type 0) (n : ℕ) → P n → ¬ ¬ ((m : ℕ) × (P m) × ((i : ℕ) → P i → m ≤ i))
+no-least : (P : ℕ → Type 0) (n : ℕ) → P n → ¬ ¬ ((m : ℕ) × (P m) × ((i : ℕ) → P i → m ≤ i))
 no-least P n p = least-below P (suc n) n (omega arith) p
 
 -- where there is a walk, there is a shortest one
@@ -59,13 +59,6 @@ pub some-dist : {N : Net} {u t l k : ℕ} → Walk N u t l k → ¬ ¬ ((d : ℕ
 some-dist {N} {u} {t} {l} {k} w none =
     no-least (λ (x : ℕ). (j : ℕ) × Walk N u t x j) l (k, w)
     λ m. none (m .0, record { count = m .1 .0; walk = m .1 .1; least = λ x j w′. m .2 x (j, w′) })
-
--- and a best one
-pub some-best : {N : Net} {s u l k : ℕ} → Walk N s u l k → ¬ ¬ ((d : ℕ) × (j : ℕ) × Best N s u d j)
-some-best {N} {s} {u} w none =
-    some-dist w λ d.
-    no-least (λ (x : ℕ). Walk N s u (d .0) x) (d .1 .count) (d .1 .walk) λ m.
-    none (d .0, m .0, record { walk = m .1; least = d .1 .least; fewest = m .2 })
 
 -- the best walk from s to itself is the empty one
 pub best-start : (N : Net) (s : ℕ) → Best N s s 0 0

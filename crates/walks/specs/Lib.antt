@@ -1,4 +1,5 @@
--- Walks, least lengths, routes, settled counts and S(e), in the words of 01; and their laws.
+-- Walks, least lengths, routes, settled counts and S(e), in the words of 01; then their laws.
+-- What a reader must believe: Walk, Order, Least, Route, Count, Settled, Search, Through, Rows.
 pub mod Walk
 pub mod WalkLaws
 pub mod Order
@@ -11,10 +12,10 @@ pub mod Settled
 pub mod Search
 pub mod Through
 pub mod ThroughLaws
+pub mod Rows
 pub mod Sparing
 pub mod Pruning
 pub mod Checking
-pub mod Rows
 pub mod Settling
 pub mod SettlingLaws
 pub mod Marking
@@ -22,5 +23,3 @@ pub mod Relaxing
 pub mod Scanning
 pub mod Tracing
 pub mod Limits
-pub mod Toward
-pub mod RowsLaws

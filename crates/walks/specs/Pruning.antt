@@ -1,12 +1,12 @@
 -- Demand 3, for any per-arc test: a search over only the arcs that the test keeps answers as one over all arcs,
 -- if the test keeps every arc of the shortest walks. Assumes nothing.
-use mathlib.Core.Path.{_≡_, refl, sym, subst}
+use mathlib.Core.Path.{_≡_, sym}
 use mathlib.Core.List.{List}
 use mathlib.Core.Logic.{_↔_}
 use Prim.Native.Nat.{ℕ, _+_, _≤_}
 use native.Mathlib.Nat.{add-zero, le-antisymm}
 use native.Mathlib.Omega.{arith}
-use native.Mathlib.Decide.{decLt, decLe}
+use native.Mathlib.Decide.{decLe}
 use Rattle.walks.specs.Walk.{Net, Walk, empty, then, only}
 use Rattle.walks.specs.WalkLaws.{single, join, with-all}
 use Rattle.walks.specs.Least.{Reached, Dist, Best}

@@ -1,7 +1,7 @@
 -- The arcs out of the node u that is being settled are relaxed, one after the other. Assumes nothing.
 use mathlib.Core.Path.{_≡_, refl, sym, subst, ap, _∙_}
 use mathlib.Core.Logic.{_↔_, _≢_}
-use Prim.Native.Nat.{ℕ, _+_, _≤_}
+use Prim.Native.Nat.{ℕ, _+_}
 use native.Mathlib.Omega.{arith}
 use native.Mathlib.Decide.{ℕ-discrete, map-dec}
 use Rattle.walks.specs.Walk.{Net}
@@ -10,6 +10,28 @@ use Rattle.walks.specs.Order.{Less, NotAfter, notAfter-refl, notAfter-tr
 use Rattle.walks.specs.Count.{count-same}
 use Rattle.walks.specs.Settling.{Labelling, Relaxed, Progress, All}
 use Rattle.walks.specs.Marking.{Relaxing}
+
+-- the same labels, when other arcs are told as seen and these are relaxed too
+told : {N : Net} {n s c : ℕ} {L : Labelling} {Seen Seen′ : ℕ → Type 0}
+    → Progress N n s L Seen c → ((e : ℕ) → N .Arc e → Seen′ e → L .Settled (N .tail e) → Relaxed N L e) → Progress N n s L Seen′ c
+told P relaxed = record {
+  start = P .start;
+  start-length = P .start-length;
+  start-arcs = P .start-arcs;
+  either = P .either;
+  settled-labelled = P .settled-labelled;
+  walk = P .walk;
+  relaxed = relaxed;
+  order = P .order;
+  count = P .count;
+  few = P .few;
+}
+
+-- ---- All arcs out of u are seen
+
+pub relaxed-all : {N : Net} {n s c u : ℕ} {L : Labelling} {Seen : ℕ → Type 0}
+    → Relaxing N n s L u Seen c → ((e : ℕ) → N .Arc e → N .tail e ≡ u → Seen e) → Progress N n s L All c
+relaxed-all R all = told (R .progress) (λ e a seen d. R .progress .relaxed e a (all e a) d)
 
 -- ---- One arc i more is seen. `Seen′` tells of no arc out of u but i that `Seen` does not tell of.
 
@@ -23,24 +45,13 @@ pub relax-none : {N : Net} {n s c u i : ℕ} {L : Labelling} {Seen Seen′ : ℕ
 relax-none {N} {u = u} {i = i} {L = L} R more ok =
     let P = R .progress in
     record {
-      progress = record {
-        start = P .start;
-        start-length = P .start-length;
-        start-arcs = P .start-arcs;
-        either = P .either;
-        settled-labelled = P .settled-labelled;
-        walk = P .walk;
-        relaxed = λ e a seen d. elim (ℕ-discrete e i) [
-          | yes p ↦ elim (ℕ-discrete (N .tail e) u) [
-            | yes q ↦ subst (Relaxed N L) (sym p) (ok (subst (N .Arc) p a) (ap (N .tail) (sym p) ∙ q))
-            | no q ↦ P .relaxed e a (λ q′. absurd (q q′)) d
-          ]
-          | no p ↦ P .relaxed e a (λ q. more e a q p (seen q)) d
-        ];
-        order = P .order;
-        count = P .count;
-        few = P .few;
-      };
+      progress = told P (λ e a seen d. elim (ℕ-discrete e i) [
+        | yes p ↦ elim (ℕ-discrete (N .tail e) u) [
+          | yes q ↦ subst (Relaxed N L) (sym p) (ok (subst (N .Arc) p a) (ap (N .tail) (sym p) ∙ q))
+          | no q ↦ P .relaxed e a (λ q′. absurd (q q′)) d
+        ]
+        | no p ↦ P .relaxed e a (λ q. more e a q p (seen q)) d
+      ]);
       settled = R .settled;
       last = R .last;
       room = R .room;
@@ -140,23 +151,3 @@ relax-better {N} {n} {s} {c} {u} {i} {L} {L′} {Seen} {Seen′} R more arc from
         label = notAfter-as (m .length _ (r .labelled) q) (m .arcs _ (r .labelled) q) (omega (arith, length-settled _ t)) (omega (arith, arcs-settled _ t)) (r .label);
       }
     ]
-
--- ---- All arcs out of u are seen
-
-pub relaxed-all : {N : Net} {n s c u : ℕ} {L : Labelling} {Seen : ℕ → Type 0}
-    → Relaxing N n s L u Seen c → ((e : ℕ) → N .Arc e → N .tail e ≡ u → Seen e)
-    → Progress N n s L All c
-relaxed-all R all =
-    let P = R .progress in
-    record {
-      start = P .start;
-      start-length = P .start-length;
-      start-arcs = P .start-arcs;
-      either = P .either;
-      settled-labelled = P .settled-labelled;
-      walk = P .walk;
-      relaxed = λ e a seen d. P .relaxed e a (all e a) d;
-      order = P .order;
-      count = P .count;
-      few = P .few;
-    }

@@ -20,6 +20,8 @@ pub record NoWalk (N : Net) (n s t c : ℕ) : Type 0 where
   pub none : ¬ Reached N s t
   pub settled : Settled N n s t c
 
+-- ---- There is only one reply
+
 pub record SameReply (d d′ k k′ c c′ : ℕ) (arcs arcs′ : List ℕ) : Type 0 where
   pub length : d ≡ d′
   pub count : k ≡ k′

@@ -1,11 +1,9 @@
 -- t is in S(e) exactly when some walk of least length from e's tail to t has e as its first arc. Assumes nothing.
-use mathlib.Core.Path.{refl}
-use Prim.Native.Nat.{ℕ, _+_}
+use Prim.Native.Nat.{ℕ}
 use native.Mathlib.Omega.{arith}
 use lib.ListN.{length}
 use Rattle.walks.specs.Walk.{Net, by-arc}
 use Rattle.walks.specs.WalkLaws.{single, join, by-walk, by-first, walk-by}
-use Rattle.walks.specs.Least.{Dist}
 use Rattle.walks.specs.Through.{InS, Begins}
 
 module _ {N : Net} {e t : ℕ} where

@@ -1,11 +1,14 @@
 -- Walks taken apart and put together. Assumes nothing.
 use mathlib.Core.Path.{_≡_, refl, sym, subst}
 use mathlib.Core.List.{List, [], _∷_, _++_}
+use mathlib.Core.Bool.{true, Bool-set}
 use Prim.Native.Nat.{ℕ, _+_}
 use native.Mathlib.Nat.{add-zero, zero-add}
 use native.Mathlib.Omega.{arith}
 use lib.ListN.{length}
-use Rattle.walks.specs.Walk.{Net, reverse, only, Walk, empty, then, WalkBy, by-none, by-arc}
+use std.Equiv.{_≃_, isoToEquiv}
+use std.Univalence.{ua}
+use Rattle.walks.specs.Walk.{Net, reverse, only, kept, Walk, empty, then, WalkBy, by-none, by-arc}
 
 module _ {N : Net} where
   -- the same walk, its length and arc count written otherwise
@@ -64,3 +67,11 @@ module _ {N : Net} where
 -- a walk by arcs of which e is the first: the arc e, and a walk from its head
 pub by-first : {N : Net} {u t l e : ℕ} {more : List ℕ} → WalkBy N u t l (e ∷ more) → (r : ℕ) × (N .Arc e) × (l ≡ N .weight e + r) × WalkBy N (N .head e) t r more
 by-first (by-arc e a w) = (_, a, refl, w)
+
+-- ---- A network of which every arc is kept is the network itself
+
+same-arc : (A : Type 0) → (A × (true ≡ true)) ≃ A
+same-arc A = isoToEquiv (record { fun = λ x. x .0; inv = λ a. (a, refl); rinv = λ a. refl; linv = λ x i. (x .0, Bool-set true true refl (x .1) i) })
+
+pub kept-all : (N : Net) → kept (λ e. true) N ≡ N
+kept-all N = λ i. record { Arc = λ e. ua (same-arc (N .Arc e)) i; tail = N .tail; head = N .head; weight = N .weight }
