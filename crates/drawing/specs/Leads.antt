@@ -1,19 +1,13 @@
--- S(e) by the lengths to t, which are those of a labelling from t in the reverse network. Assumes nothing.
-use Prim.Native.Nat.{ℕ, _+_}
-use mathlib.Core.Bool.{Bool, true, _&&_}
+-- S(e) by the lengths to t, which are those of the labels of a search from t in the reverse network. Assumes nothing.
+use Prim.Native.Nat.{ℕ}
+use mathlib.Core.Bool.{Bool}
 use mathlib.Core.List.{List}
-use lib.Dec.{ltb, eqb}
-use Rattle.walks.specs.Rows.{Rows, at, turned}
-use Rattle.settling.specs.Labels.{none}
-use Rattle.settling.specs.Run.{searchOf}
-
--- a rest, which is a length, and an arc's weight make up a whole
-abbrev pub makesUp : ℕ → ℕ → ℕ → Bool
-makesUp rest weight whole = ltb rest none && eqb (rest + weight) whole
+use Rattle.walks.specs.Rows.{Rows, at}
+use Rattle.settling.specs.LengthsTo.{towardOf, onShortest}
 
 -- an arc leads to t: its head has a length, and with the arc's weight that is its tail's
 abbrev pub leadsB : List ℕ → ℕ → ℕ → ℕ → Bool
-leadsB lengths tail head weight = makesUp (at lengths head) weight (at lengths tail)
+leadsB lengths tail head weight = onShortest weight (at lengths head) (at lengths tail)
 
 -- the arc e of the rows
 unfoldable pub leadsAt : Rows → List ℕ → ℕ → Bool
@@ -21,7 +15,7 @@ leadsAt R lengths e = leadsB lengths (at (R .tails) e) (at (R .heads) e) (at (R 
 
 -- the lengths to t, of all nodes
 unfoldable pub lengthsTo : Rows → ℕ → ℕ → ℕ → List ℕ
-lengthsTo R n m t = searchOf (turned R) (λ e. true) n m 0 t .labels .length
+lengthsTo R n m t = towardOf R n m t .length
 
 -- the arc e leads to t
 abbrev pub leadsTo : Rows → ℕ → ℕ → ℕ → ℕ → Bool

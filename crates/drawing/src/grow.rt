@@ -3,16 +3,18 @@ ghost use mathlib.Core.Path.{_≡_};
 ghost use Prim.Native.Nat.{_*_, _≤_};
 ghost use lib.ListN.{length};
 ghost use Rattle.walks.specs.Rows.{Sound};
+ghost use Rattle.settling.specs.LengthsTo.{onShortest};
 ghost use Rattle.settling.specs.Toward.{rows};
-ghost use Rattle.drawing.specs.Leads.{makesUp, leadsB, leadsAt, leadsTo};
+ghost use Rattle.drawing.specs.Leads.{leadsB, leadsAt, leadsTo};
 ghost use Rattle.drawing.specs.Drawn.{Drawn};
 ghost use Rattle.drawing.specs.Grown.{Nodes, Started, GrownOnce, GrownAll};
 
-// Whether a rest and an arc's weight make up a whole. A node without a length has 4294967295 for it.
-fn makes_up(rest: u32, weight: u32, whole: u32) -> bool
-    ensures { λ r. ⌜ r ≡ makesUp rest weight whole ⌝ }
+// Whether an arc of this weight, from a node of length `tail` to one of length `head`, is on a shortest walk. A node
+// without a length has 4294967295 for it.
+fn on_shortest(weight: u32, head: u32, tail: u32) -> bool
+    ensures { λ r. ⌜ r ≡ onShortest weight head tail ⌝ }
 {
-    (rest < 4294967295) & (rest as u64 + weight as u64 == whole as u64)
+    (head < 4294967295) & (weight as u64 + head as u64 == tail as u64)
 }
 
 // Whether t is in S(e), for an arc e of these ends and this weight, by the lengths to t: the head has a length, and
@@ -21,9 +23,9 @@ pub fn leads(lengths: &[u32; 512], tail: u32, head: u32, weight: u32) -> bool
     requires { ⌜ (1 ≤ tail) × (tail ≤ 512) × (1 ≤ head) × (head ≤ 512) ⌝ }
     ensures { λ r. ⌜ r ≡ leadsB (now (lengths .entry)) tail head weight ⌝ }
 {
-    makes_up(
-        lengths[head as usize - 1],
+    on_shortest(
         weight,
+        lengths[head as usize - 1],
         lengths[tail as usize - 1],
     )
 }

@@ -1,0 +1,81 @@
+-- `search::judge::judge_network` meets its contract: each refusal is handed on as it came. Assumes nothing.
+use mathlib.Core.Path.{_≡_, sym, ap, _∙_}
+use mathlib.Core.Bool.{Bool, true, _&&_}
+use borrow.Author.Needs.{needs}
+use Rattle.rules.specs.Judging.{passes}
+use Rattle.rules.specs.declared.Judged.{Judged}
+use Rattle.rules.specs.declared.Judged.the-variants.{Fine}
+use Rattle.rules.specs.declared.Refusal.the-variants.{RowTooShort}
+use Rattle.walks.specs.Rows.{Rows}
+use Rattle.settling.specs.Choice.{and-true}
+use Rattle.settling.specs.Toward.{rows}
+use Rattle.search.specs.Judge.{arcRowsLong, networkJudged}
+use Rattle.search.specs.JudgeLaws.{last, passed, long-arcs}
+use Rattle.search.proofs.Turns.{out, on}
+use Rattle.search.proofs.judge.judge_network.Statement.{statement}
+use Rattle.search.proofs.judge.judge_network.Tie as tie
+
+-- the rows are judged by the test that the code asked
+asked : {j : Judged} {long arcs : Bool} (others : Bool) → j ≡ passes (long && others) RowTooShort → long ≡ arcs → j ≡ passes (arcs && others) RowTooShort
+asked others e h = rw h at e
+
+judge-sizes-requires : tie.Need-judge-sizes-requires
+judge-sizes-requires c κs = search needs
+
+enum-told : tie.Need-enum-told
+enum-told c = search needs
+
+enum-told-2 : tie.Need-enum-told-2
+enum-told-2 c = search needs
+
+returns : tie.Need-returns
+unfolding networkJudged
+returns c = out _ (c .before .before .judge-sizes .ensures) (c .enum-told2 .given .1)
+
+arc-rows-long-requires : tie.Need-arc-rows-long-requires
+arc-rows-long-requires c κs = search needs
+
+unless-requires : tie.Need-unless-requires
+unless-requires c κs = search needs
+
+enum-told-3 : tie.Need-enum-told-3
+enum-told-3 c = search needs
+
+enum-told-4 : tie.Need-enum-told-4
+enum-told-4 c = search needs
+
+returns-2 : tie.Need-returns-2
+unfolding networkJudged
+returns-2 c = 
+    on (c .before .before .before .before .before .before .judge-sizes .ensures) (c .before .before .before .before .enum-told .given .1)
+    (out _ (asked _ (c .before .before .unless .ensures) (c .before .before .before .arc-rows-long .ensures)) (c .enum-told4 .given .1))
+
+judge-arcs-requires : tie.Need-judge-arcs-requires
+judge-arcs-requires c κs = 
+    let a = c .before .before .before .before .before .before .before .before .before .before .args in
+    let R = rows (a .tails .now) (a .heads .now) (a .weights .now) in
+    let fine = sym (asked (a .others) (c .before .before .unless .ensures) (c .before .before .before .arc-rows-long .ensures)) ∙ c .enum-told3 .given .1 in
+    long-arcs (a .m) R (and-true (arcRowsLong (a .m) R) (a .others) (passed _ _ fine) .0)
+
+returns-3 : tie.Need-returns-3
+unfolding networkJudged
+returns-3 c = 
+    on (c .before .before .before .before .before .before .before .judge-sizes .ensures) (c .before .before .before .before .before .enum-told .given .1)
+    (on (asked _ (c .before .before .before .unless .ensures) (c .before .before .before .before .arc-rows-long .ensures)) (c .before .enum-told3 .given .1)
+    (c .judge-arcs .ensures ∙ sym (last _)))
+
+pub judge-network-spec : {M : Type 1} → statement M
+judge-network-spec =
+    tie.close
+    (tie.spec
+    judge-sizes-requires
+    enum-told
+    enum-told-2
+    returns
+    arc-rows-long-requires
+    unless-requires
+    enum-told-3
+    enum-told-4
+    returns-2
+    judge-arcs-requires
+    returns-3)

@@ -1,0 +1,57 @@
+-- `search::search` meets its contract: refused as judged, or answered over all arcs. Assumes nothing.
+use mathlib.Core.Path.{sym, _∙_}
+use borrow.Author.Needs.{needs}
+use lib.ListN.{length}
+use Rattle.settling.specs.Toward.{rows}
+use Rattle.search.specs.Says.{refused, answered}
+use Rattle.search.specs.JudgeLaws.{Lent, search-fine}
+use Rattle.search.proofs.Networks.{answers-alike, all-arcs}
+use Rattle.search.proofs.search.Statement.{statement}
+use Rattle.search.proofs.search.Tie as tie
+
+judge-search-requires : tie.Need-judge-search-requires
+judge-search-requires c κs = search needs
+
+enum-known-j : tie.Need-enum-known-j
+enum-known-j c = search needs
+
+enum-told : tie.Need-enum-told
+enum-told c = search needs
+
+-- what is lent, where it was judged fine
+fine :
+    (c : tie.After-enum-told) →
+    let a = c .before .before .before .before .before .before .before .args in
+    Lent (a .n) (a .m) (rows (a .tails .now) (a .heads .now) (a .weights .now)) (a .s) (a .t) (length (a .route .now))
+fine c = search-fine _ _ _ _ _ _ (sym (c .before .before .judge-search .ensures) ∙ c .enum-told .given .1)
+
+slice-aggregate-find : tie.Need-slice-aggregate-find
+slice-aggregate-find c = search needs
+
+find-requires : tie.Need-find-requires
+find-requires c κs = 
+    let l = fine (c .before .before) in
+    (l .sound, tt, l .source-low, l .source-high, l .target-low, l .target-high, l .room)
+
+same-length : tie.Need-same-length
+same-length c = search needs
+
+returns : tie.Need-returns
+returns c = 
+    answered (sym (c .before .before .before .before .before .before .before .judge-search .ensures) ∙ c .before .before .before .before .before .enum-told .given .1) (answers-alike (all-arcs _) (c .before .before .find .ensures))
+
+returns-2 : tie.Need-returns-2
+returns-2 c = refused (sym (c .before .before .before .judge-search .ensures) ∙ c .before .j .given .1)
+
+pub search-spec : {M : Type 1} → statement M
+search-spec =
+    tie.close
+    (tie.spec
+    judge-search-requires
+    enum-known-j
+    enum-told
+    slice-aggregate-find
+    find-requires
+    same-length
+    returns
+    returns-2)

@@ -1,0 +1,83 @@
+-- `search::search_boxed` meets its contract: refused as judged, or answered over the arcs whose box holds t. Assumes nothing.
+use Prim.Native.Nat.{_*_, _≤_}
+use mathlib.Core.Path.{sym, _∙_}
+use native.Mathlib.Omega.{arith}
+use borrow.Author.Needs.{needs}
+use lib.ListN.{length}
+use Rattle.geometry.proofs.Signed.{back}
+use Rattle.geometry.specs.Row.{coordinate}
+use Rattle.settling.specs.Toward.{rows}
+use Rattle.search.specs.Says.{refused, answered}
+use Rattle.search.specs.JudgeLaws.{Lent, boxed-fine}
+use Rattle.search.proofs.Networks.{answers-alike, held-arcs}
+use Rattle.search.proofs.search_boxed.Statement.{statement}
+use Rattle.search.proofs.search_boxed.Tie as tie
+
+judge-boxed-requires : tie.Need-judge-boxed-requires
+judge-boxed-requires c κs = search needs
+
+enum-known-j : tie.Need-enum-known-j
+enum-known-j c = search needs
+
+enum-told : tie.Need-enum-told
+enum-told c = search needs
+
+-- what is lent, where it was judged fine
+fine :
+    (c : tie.After-enum-told) →
+    let a = c .before .before .before .before .before .before .before .args in
+    Lent (a .n) (a .m) (rows (a .tails .now) (a .heads .now) (a .weights .now)) (a .s) (a .t) (length (a .route .now))
+    × (a .n ≤ length (a .x .now))
+    × (a .n ≤ length (a .y .now))
+    × (4 * a .m ≤ length (a .boxes .now))
+fine c = boxed-fine _ _ _ _ _ _ _ _ _ (sym (c .before .before .judge-boxed .ensures) ∙ c .enum-told .given .1)
+
+sub-at : tie.Need-sub-at
+sub-at c = let f = fine c in omega (arith, f .0)
+
+mul-t18 : tie.Need-mul-t18
+mul-t18 c = search needs
+
+shared-slice-copy-out-t20 : tie.Need-shared-slice-copy-out-t20
+shared-slice-copy-out-t20 c = let f = fine c in omega (arith, f .0)
+
+mul-t21 : tie.Need-mul-t21
+mul-t21 c = search needs
+
+shared-slice-copy-out-t23 : tie.Need-shared-slice-copy-out-t23
+shared-slice-copy-out-t23 c = let f = fine (c .before) in omega (arith, f .0)
+
+find-requires : tie.Need-find-requires
+find-requires c κs = 
+    let f = fine (c .before .before .before) in
+    let l = f .0 in
+    (l .sound, f .3, l .source-low, l .source-high, l .target-low, l .target-high, l .room)
+
+same-length : tie.Need-same-length
+same-length c = search needs
+
+returns : tie.Need-returns
+returns c = 
+    let a = c .before .before .before .before .before .before .before .before .before .before .before .before .before .args in
+    let answers = rw (back (coordinate (a .x .now) (a .t)) (c .before .before .before .before .before .t20 .given), back (coordinate (a .y .now) (a .t)) (c .before .before .before .before .t23 .given)) at (c .before .before .find .ensures) in
+    answered (sym (c .before .before .before .before .before .before .before .before .judge-boxed .ensures) ∙ c .before .before .before .before .before .before .enum-told .given .1) (answers-alike (held-arcs (a .x .now) (a .y .now) (a .boxes .now) (a .t) _) answers)
+
+returns-2 : tie.Need-returns-2
+returns-2 c = refused (sym (c .before .before .before .judge-boxed .ensures) ∙ c .before .j .given .1)
+
+pub search-boxed-spec : {M : Type 1} → statement M
+search-boxed-spec =
+    tie.close
+    (tie.spec
+    judge-boxed-requires
+    enum-known-j
+    enum-told
+    sub-at
+    mul-t18
+    shared-slice-copy-out-t20
+    mul-t21
+    shared-slice-copy-out-t23
+    find-requires
+    same-length
+    returns
+    returns-2)

@@ -1,0 +1,5 @@
+pub mod Judge
+pub mod JudgeLaws
+pub mod Paper
+pub mod Says
+pub mod Alike

@@ -1,0 +1,42 @@
+-- What a search says: the one relation between what is lent, the reply and the route row afterwards. Assumes nothing.
+use Prim.Native.Nat.{ℕ}
+use mathlib.Core.Path.{_≡_}
+use mathlib.Core.List.{List, [], _∷_, _++_}
+use lib.IntN.{ℤ}
+use lib.ListN.{length, drop}
+use Rattle.rules.specs.Paper.{Reply, accepted, refusal}
+use Rattle.rules.specs.declared.Judged.{Judged}
+use Rattle.rules.specs.declared.Judged.the-variants.{Fine, Refused}
+use Rattle.rules.specs.declared.Refusal.{Refusal}
+use Rattle.rules.specs.declared.Refusal.the-variants as refusals
+use Rattle.geometry.specs.Box.{Holds}
+use Rattle.geometry.specs.Row.{boxOf, coordinate}
+use Rattle.walks.specs.Walk.{Net, only}
+use Rattle.walks.specs.Rows.{Rows, network}
+use Rattle.walks.specs.Search.{Found, NoWalk}
+use Rattle.search.specs.Judge.{searchJudged, boxedJudged}
+
+-- The answer for a network of n nodes: length, arc count and settled count, with the route's arcs, source first, in the
+-- row's first places; or 12 with the settled count. Places after the route keep their contents.
+pub data Answers (N : Net) (n s t : ℕ) (before : List ℕ) : Reply → List ℕ → Type 0 where
+  found : {length′ arcs settled : ℕ} {route : List ℕ} → Found N n s t length′ arcs settled route
+      → Answers N n s t before (accepted (length′ ∷ arcs ∷ settled ∷ [])) (route ++ drop (length route) before)
+  none : {settled : ℕ} → NoWalk N n s t settled → Answers N n s t before (refusal (refusals.NoWalk settled)) before
+
+-- What was judged decides: a refusal leaves the row as it was, else the answer for the network is given
+pub data Says (judged : Judged) (N : Net) (n s t : ℕ) (before : List ℕ) : Reply → List ℕ → Type 0 where
+  refused : {r : Refusal} → judged ≡ Refused r → Says judged N n s t before (refusal r) before
+  answered : {reply : Reply} {after : List ℕ} → judged ≡ Fine → Answers N n s t before reply after → Says judged N n s t before reply after
+
+-- the search without boxes: all arcs
+abbrev pub SearchSays : ℕ → ℕ → Rows → ℕ → ℕ → List ℕ → Reply → List ℕ → Type 0
+SearchSays n m R s t before reply after = Says (searchJudged n m R s t (length before)) (network m R) n s t before reply after
+
+-- the network of only those arcs whose box holds t
+abbrev pub holding : List ℤ → List ℤ → List ℤ → ℕ → Net → Net
+holding x y boxes t N = only (λ e. Holds (boxOf boxes e) (coordinate x t) (coordinate y t)) N
+
+-- the search with boxes
+abbrev pub BoxedSays : ℕ → ℕ → Rows → List ℤ → List ℤ → List ℤ → ℕ → ℕ → List ℕ → Reply → List ℕ → Type 0
+BoxedSays n m R x y boxes s t before reply after =
+    Says (boxedJudged n m R x y boxes s t (length before)) (holding x y boxes t (network m R)) n s t before reply after
