@@ -8,14 +8,14 @@ use native.Mathlib.Decide.{ℕ-discrete}
 use native.Mathlib.Numerals.{add-one}
 use lib.IntN.{ℤ}
 use lib.ListN.{length, getD}
-use Rattle.walks.specs.Rows.{Rows, Sound}
+use Rattle.walks.specs.Rows.{Rows, Sound, at}
 use Rattle.geometry.specs.Box.{Box}
 use Rattle.geometry.specs.Hull.{placeBox, grown}
 use Rattle.geometry.specs.Row.{coordinate, number, boxOf, withBox}
 use Rattle.drawing.specs.Leads.{leadsB, leadsAt, lengthsTo, leadsTo}
 use Rattle.drawing.specs.Drawn.{Drawn}
 use Rattle.drawing.specs.Missed.{Clear}
-use Rattle.drawing.specs.Grown.{headBox, grownIf, grownBy, GrownOnce, GrownAll}
+use Rattle.drawing.specs.Grown.{Nodes, headBox, grownIf, grownBy, GrownOnce, GrownAll}
 use Rattle.drawing.proofs.DrawnLaws.{drawn-old, drawn-next, drawn-stays, drawn-self, drawn-then}
 
 -- the arc at place j is arc j + 1
@@ -52,10 +52,19 @@ module _ (R : Rows) (n m : ℕ) (x y : List ℤ) where
   node-turn t {lengths} {px} {py} told ex ey p q =
       drawn-then (λ e o b d i j. j ∙ rw (i, told, ex, ey) (grown-next (λ v. leadsTo R n m v e) x y t o)) p q
 
--- the arc at place e starts at its head
-pub started-next : (heads : List ℕ) (x y : List ℤ) (e : ℕ) {px py : ℤ} → px ≡ number x (getD heads e 0 - 1) → py ≡ number y (getD heads e 0 - 1)
-    → placeBox px py ≡ headBox heads x y (e + 1)
-started-next heads x y e p q = let same : e + 1 - 1 ≡ e = omega arith in rw (p, q, same) refl
+-- the arc at place e starts at its head, or grows by it
+module _ (heads : List ℕ) (x y : List ℤ) (e : ℕ) {px py : ℤ} (ex : px ≡ number x (getD heads e 0 - 1)) (ey : py ≡ number y (getD heads e 0 - 1)) where
+  pub started-next : placeBox px py ≡ headBox heads x y (e + 1)
+  started-next = let same : e + 1 - 1 ≡ e = omega arith in rw (ex, ey, same) refl
+
+  pub head-next : {b c : Box} → b ≡ c → grown b px py ≡ grown c (coordinate x (at heads (e + 1))) (coordinate y (at heads (e + 1)))
+  head-next same = let back : e + 1 - 1 ≡ e = omega arith in rw (same, ex, ey, back) refl
+
+-- the head at place e is a node
+pub node-at : {n m : ℕ} {row : List ℕ} → Nodes n m row → (e : ℕ) → e < m → (1 ≤ getD row e 0) × (getD row e 0 ≤ n)
+node-at h e l =
+    let same : e + 1 - 1 ≡ e = omega arith in
+    (rw same at (h .low (e + 1) (omega arith) (omega arith)), rw same at (h .high (e + 1) (omega arith) (omega arith)))
 
 -- the number e + 1 passes a test that the numbers 1..e fail; or none of 1..k passes
 module _ {test : ℕ → Bool} (k : ℕ) where

@@ -7,7 +7,7 @@ ghost use Rattle.settling.specs.LengthsTo.{onShortest};
 ghost use Rattle.settling.specs.Toward.{rows};
 ghost use Rattle.drawing.specs.Leads.{leadsB, leadsAt, leadsTo};
 ghost use Rattle.drawing.specs.Drawn.{Drawn};
-ghost use Rattle.drawing.specs.Grown.{Nodes, Started, GrownOnce, GrownAll};
+ghost use Rattle.drawing.specs.Grown.{Nodes, Started, GrownHead, GrownOnce, GrownAll};
 
 // Whether an arc of this weight, from a node of length `tail` to one of length `head`, is on a shortest walk. A node
 // without a length has 4294967295 for it.
@@ -39,6 +39,19 @@ pub fn start_all(m: usize, heads: &[u32], x: &[i32], y: &[i32], boxes: &mut [i32
     while e < m {
         let at = heads[e] as usize - 1;
         geometry::start_box(boxes, e + 1, x[at], y[at]);
+        e += 1;
+    }
+}
+
+// Each arc's box grows by its head's place.
+pub fn grow_heads(m: usize, heads: &[u32], x: &[i32], y: &[i32], boxes: &mut [i32])
+    requires { ⌜ Nodes (length (now x)) m (now heads) × Nodes (length (now y)) m (now heads) × (4 * m ≤ length (now boxes)) ⌝ }
+    ensures { λ _. ⌜ Drawn m (GrownHead (now (heads .entry)) (now (x .entry)) (now (y .entry))) (now (boxes .entry)) (now (boxes .exit)) ⌝ }
+{
+    let mut e: usize = 0;
+    while e < m {
+        let at = heads[e] as usize - 1;
+        geometry::grow_box(boxes, e + 1, x[at], y[at]);
         e += 1;
     }
 }

@@ -1,25 +1,16 @@
 -- `drawing::grow::start_all` meets its contract. The loop's invariant: the boxes of the arcs up to e are drawn. Assumes nothing.
 use Prim.Native.Nat.{ℕ, _+_, _-_, _*_, _≤_, _<_}
-use mathlib.Core.Path.{_≡_, refl, sym, _∙_, ap}
+use mathlib.Core.Path.{_≡_}
 use native.Mathlib.Omega.{arith}
-use borrow.Author.Needs.{needs}
-use lib.ListN.{length, getD}
-use mathlib.Core.List.{List}
-use Rattle.walks.specs.Rows.{at}
+use lib.ListN.{getD}
 use Rattle.geometry.specs.Row.{number}
 use Rattle.geometry.proofs.Signed.{back}
 use Rattle.drawing.specs.Drawn.{Drawn}
-use Rattle.drawing.specs.Grown.{Nodes, Started}
+use Rattle.drawing.specs.Grown.{Started}
 use Rattle.drawing.proofs.DrawnLaws.{drawn-none, drawn-next}
-use Rattle.drawing.proofs.Steps.{started-next}
+use Rattle.drawing.proofs.Steps.{started-next, node-at}
 use Rattle.drawing.proofs.grow.start_all.Statement.{statement}
 use Rattle.drawing.proofs.grow.start_all.Tie as tie
-
--- the head at place e is a node
-node : {n m : ℕ} {row : List ℕ} → Nodes n m row → (e : ℕ) → e < m → (1 ≤ getD row e 0) × (getD row e 0 ≤ n)
-node h e l =
-    let same : e + 1 - 1 ≡ e = omega arith in
-    (rw same at (h .low (e + 1) (omega arith) (omega arith)), rw same at (h .high (e + 1) (omega arith) (omega arith)))
 
 abbrev Inv-loop : tie.InvT-loop
 Inv-loop m heads x y boxes₀ e₀ boxes e = (e ≤ m) × Drawn e (Started heads x y) boxes₀ boxes
@@ -40,22 +31,22 @@ cast-at : tie.Need-cast-at Inv-loop μ-loop
 cast-at c = omega (arith, c .shared-slice-known2 .given (c .before .before .loop .e))
 
 sub-at : tie.Need-sub-at Inv-loop μ-loop
-sub-at c = let h = node (c .before .before .before .before .pre .0) (c .before .before .loop .e) (omega arith) in omega arith
+sub-at c = let h = node-at (c .before .before .before .before .pre .0) (c .before .before .loop .e) (omega arith) in omega arith
 
 add-start-box : tie.Need-add-start-box Inv-loop μ-loop
 add-start-box c = omega arith
 
 mul-start-box : tie.Need-mul-start-box Inv-loop μ-loop
-mul-start-box c = let h = node (c .before .before .before .before .before .pre .0) (c .before .before .before .loop .e) (omega arith) in omega arith
+mul-start-box c = let h = node-at (c .before .before .before .before .before .pre .0) (c .before .before .before .loop .e) (omega arith) in omega arith
 
 shared-slice-copy-out-start-box : tie.Need-shared-slice-copy-out-start-box Inv-loop μ-loop
-shared-slice-copy-out-start-box c = let h = node (c .before .before .before .before .before .pre .0) (c .before .before .before .loop .e) (omega arith) in omega arith
+shared-slice-copy-out-start-box c = let h = node-at (c .before .before .before .before .before .pre .0) (c .before .before .before .loop .e) (omega arith) in omega arith
 
 mul-start-box-2 : tie.Need-mul-start-box-2 Inv-loop μ-loop
-mul-start-box-2 c = let h = node (c .before .before .before .before .before .before .pre .1) (c .before .before .before .before .loop .e) (omega arith) in omega arith
+mul-start-box-2 c = let h = node-at (c .before .before .before .before .before .before .pre .1) (c .before .before .before .before .loop .e) (omega arith) in omega arith
 
 shared-slice-copy-out-start-box-2 : tie.Need-shared-slice-copy-out-start-box-2 Inv-loop μ-loop
-shared-slice-copy-out-start-box-2 c = let h = node (c .before .before .before .before .before .before .pre .1) (c .before .before .before .before .loop .e) (omega arith) in omega arith
+shared-slice-copy-out-start-box-2 c = let h = node-at (c .before .before .before .before .before .before .pre .1) (c .before .before .before .before .loop .e) (omega arith) in omega arith
 
 start-box-requires : tie.Need-start-box-requires Inv-loop μ-loop
 start-box-requires c κs = omega (arith, c .before .before .before .before .before .loop .inv .1 .long)
