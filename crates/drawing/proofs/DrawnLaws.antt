@@ -54,9 +54,9 @@ drawn-self m row h = record { boxes = λ e low high. h e _; rest = λ i high. re
 
 -- one drawing after another
 pub drawn-then : {Is Js Ks : ℕ → Box → Box → Type 0} {m : ℕ} {a b c : List ℤ}
-    → ((e : ℕ) (o p q : Box) → Is e o p → Js e p q → Ks e o q) → Drawn m Is a b → Drawn m Js b c → Drawn m Ks a c
+    → ((e : ℕ) → 1 ≤ e → e ≤ m → (p q : Box) → Is e (boxOf a e) p → Js e p q → Ks e (boxOf a e) q) → Drawn m Is a b → Drawn m Js b c → Drawn m Ks a c
 drawn-then h p q = record {
-  boxes = λ e low high. h e _ _ _ (p .boxes e low high) (q .boxes e low high);
+  boxes = λ e low high. h e low high _ _ (p .boxes e low high) (q .boxes e low high);
   rest = λ i high. q .rest i high ∙ p .rest i high;
   long = q .long ∙ p .long;
 }

@@ -50,7 +50,7 @@ module _ (R : Rows) (n m : ℕ) (x y : List ℤ) where
   pub node-turn : (t : ℕ) {lengths : List ℕ} {px py : ℤ} {a b c : List ℤ} → lengths ≡ lengthsTo R n m (t + 1) → px ≡ number x t → py ≡ number y t
       → Drawn m (GrownAll (leadsTo R n m) x y t) a b → Drawn m (GrownOnce (leadsAt R lengths) px py) b c → Drawn m (GrownAll (leadsTo R n m) x y (t + 1)) a c
   node-turn t {lengths} {px} {py} told ex ey p q =
-      drawn-then (λ e o b d i j. j ∙ rw (i, told, ex, ey) (grown-next (λ v. leadsTo R n m v e) x y t o)) p q
+      drawn-then (λ e low high b d i j. j ∙ rw (i, told, ex, ey) (grown-next (λ v. leadsTo R n m v e) x y t _)) p q
 
 -- the arc at place e starts at its head, or grows by it
 module _ (heads : List ℕ) (x y : List ℤ) (e : ℕ) {px py : ℤ} (ex : px ≡ number x (getD heads e 0 - 1)) (ey : py ≡ number y (getD heads e 0 - 1)) where
