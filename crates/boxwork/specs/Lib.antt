@@ -5,3 +5,6 @@ pub mod Says
 pub mod TightLaws
 pub mod JudgeLaws
 pub mod SaysLaws
+pub mod Agreeing
+pub mod Accepting
+pub mod Demand3
