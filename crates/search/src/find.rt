@@ -7,11 +7,11 @@ ghost use Rattle.walks.specs.Rows.{Sound, network};
 ghost use Rattle.settling.specs.Toward.{rows, Room, keeps};
 ghost use Rattle.search.specs.Paper.{paper};
 ghost use Rattle.search.specs.Says.{Answers};
+use crate::Answer;
 use rules::Refusal;
 use settling::Toward;
 use settling::run::run;
 use settling::trace::trace;
-use crate::Answer;
 
 // The answer of a search from `s` to `t` by the arcs that may be used; the route goes into the lent row.
 pub fn find(

@@ -12,6 +12,6 @@ widened s = record {
   heads-long = s .heads-long;
   weights-long = s .weights-long;
   arcs = λ e low high.
-    let a = s .arcs e low high in
-    record { tail-low = a .tail-low; tail-high = omega arith; head-low = a .head-low; head-high = omega arith; weight-high = a .weight-high };
+      let a = s .arcs e low high in
+      record { tail-low = a .tail-low; tail-high = omega arith; head-low = a .head-low; head-high = omega arith; weight-high = a .weight-high };
 }

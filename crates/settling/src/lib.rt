@@ -3,9 +3,9 @@ ghost use mathlib.Core.Path.{_≡_};
 ghost use Prim.Native.Nat.{_≤_};
 ghost use Rattle.settling.specs.Toward.{Room, keeps};
 
-pub mod settle;
 pub mod nearest;
 pub mod run;
+pub mod settle;
 pub mod trace;
 
 // For each of 512 nodes: its length, its arc count and its settled mark. Length 4294967295 marks a node without a label.

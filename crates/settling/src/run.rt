@@ -2,7 +2,8 @@
 ghost use mathlib.Core.Path.{_≡_};
 ghost use Prim.Native.Nat.{_≤_};
 ghost use Rattle.walks.specs.Rows.{Sound};
-ghost use Rattle.settling.specs.Run.{searchOf};
+ghost use mathlib.Core.Bool.{true};
+ghost use Rattle.settling.specs.Run.{searchOf, labelsOf};
 ghost use Rattle.settling.specs.Toward.{rows, Room, keeps};
 use crate::Labels;
 use crate::Outcome;
@@ -54,4 +55,22 @@ pub fn run(
         count,
         found: false,
     }
+}
+
+// The labels of all that can be reached from `s`, by any arcs. With tails and heads swapped: of all that leads to `s`.
+pub fn label_all(
+    s: usize,
+    n: usize,
+    m: usize,
+    tails: &[u32],
+    heads: &[u32],
+    weights: &[u32],
+) -> Labels
+    requires { ⌜ (1 ≤ s) × (s ≤ n) × Sound n m (rows (now tails) (now heads) (now weights)) ⌝ }
+    ensures { λ r. ⌜ r ≡ labelsOf (rows (now (tails .entry)) (now (heads .entry)) (now (weights .entry))) (λ e. true) n m s ⌝ }
+{
+    let boxes = [0i32; 1];
+    let o = run(s, 0, n, m, tails, heads, weights, Toward::Anywhere, &boxes);
+    let labels = o.labels;
+    labels
 }

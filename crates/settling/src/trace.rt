@@ -68,15 +68,17 @@ pub fn trace(
     requires { ⌜ (1 ≤ t) × (t ≤ 512) × Sound 512 m (rows (now tails) (now heads) (now weights)) × Room toward m (now boxes) × (arcsOf labels t ≤ length (now route)) ⌝ }
     ensures { λ _. ⌜ now (route .exit) ≡ traceOf (rows (now (tails .entry)) (now (heads .entry)) (now (weights .entry))) (keeps toward (now (boxes .entry))) m labels (arcsOf labels t) t (now (route .entry)) ⌝ }
 {
+    let count = labels.arcs[t - 1] as usize;
     let mut v = t;
-    let mut k = labels.arcs[t - 1] as usize;
+    let mut k = count;
     while 0 < k {
         let into = arc_into(labels, v, m, tails, heads, weights, toward, boxes);
         let Into::Arc(e) = into else {
             return;
         };
-        k -= 1;
-        route[k] = e as u32;
+        let at = k - 1;
+        route[at] = e as u32;
         v = tails[e - 1] as usize;
+        k -= 1;
     }
 }

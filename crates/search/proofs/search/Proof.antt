@@ -5,7 +5,7 @@ use lib.ListN.{length}
 use Rattle.settling.specs.Toward.{rows}
 use Rattle.search.specs.Says.{refused, answered}
 use Rattle.search.specs.JudgeLaws.{Lent, search-fine}
-use Rattle.search.proofs.Networks.{answers-alike, all-arcs}
+use Rattle.search.specs.Networks.{answers-alike, all-arcs}
 use Rattle.search.proofs.search.Statement.{statement}
 use Rattle.search.proofs.search.Tie as tie
 
@@ -29,7 +29,7 @@ slice-aggregate-find : tie.Need-slice-aggregate-find
 slice-aggregate-find c = search needs
 
 find-requires : tie.Need-find-requires
-find-requires c κs = 
+find-requires c κs =
     let l = fine (c .before .before) in
     (l .sound, tt, l .source-low, l .source-high, l .target-low, l .target-high, l .room)
 
@@ -37,7 +37,7 @@ same-length : tie.Need-same-length
 same-length c = search needs
 
 returns : tie.Need-returns
-returns c = 
+returns c =
     answered (sym (c .before .before .before .before .before .before .before .judge-search .ensures) ∙ c .before .before .before .before .before .enum-told .given .1) (answers-alike (all-arcs _) (c .before .before .find .ensures))
 
 returns-2 : tie.Need-returns-2

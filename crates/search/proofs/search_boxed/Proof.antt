@@ -9,7 +9,7 @@ use Rattle.geometry.specs.Row.{coordinate}
 use Rattle.settling.specs.Toward.{rows}
 use Rattle.search.specs.Says.{refused, answered}
 use Rattle.search.specs.JudgeLaws.{Lent, boxed-fine}
-use Rattle.search.proofs.Networks.{answers-alike, held-arcs}
+use Rattle.search.specs.Networks.{answers-alike, held-arcs}
 use Rattle.search.proofs.search_boxed.Statement.{statement}
 use Rattle.search.proofs.search_boxed.Tie as tie
 
@@ -48,7 +48,7 @@ shared-slice-copy-out-t23 : tie.Need-shared-slice-copy-out-t23
 shared-slice-copy-out-t23 c = let f = fine (c .before) in omega (arith, f .0)
 
 find-requires : tie.Need-find-requires
-find-requires c κs = 
+find-requires c κs =
     let f = fine (c .before .before .before) in
     let l = f .0 in
     (l .sound, f .3, l .source-low, l .source-high, l .target-low, l .target-high, l .room)
@@ -57,7 +57,7 @@ same-length : tie.Need-same-length
 same-length c = search needs
 
 returns : tie.Need-returns
-returns c = 
+returns c =
     let a = c .before .before .before .before .before .before .before .before .before .before .before .before .before .args in
     let answers = rw (back (coordinate (a .x .now) (a .t)) (c .before .before .before .before .before .t20 .given), back (coordinate (a .y .now) (a .t)) (c .before .before .before .before .t23 .given)) at (c .before .before .find .ensures) in
     answered (sym (c .before .before .before .before .before .before .before .before .judge-boxed .ensures) ∙ c .before .before .before .before .before .before .enum-told .given .1) (answers-alike (held-arcs (a .x .now) (a .y .now) (a .boxes .now) (a .t) _) answers)

@@ -11,17 +11,17 @@ run-requires : tie.Need-run-requires
 run-requires c κs = search needs
 
 cast-settled : tie.Need-cast-settled
-cast-settled c = 
+cast-settled c =
     let s = c .before .before .before .before .before .before .before in
     omega (arith, count-small (s .pre .0) _ (s .args .s) (s .args .t) (s .pre .2) (s .pre .3) (s .args .route .now) (s .pre .6) (c .before .before .run .ensures))
 
 returns : tie.Need-returns
-returns c = 
+returns c =
     let s = c .before .before .before .before .before .before .before .before in
     none-answers (s .pre .0) _ (s .args .s) (s .args .t) (s .pre .2) (s .pre .3) (s .args .route .now) (s .pre .6) (c .before .before .before .run .ensures) (not-true _ (c .if1 .taken))
 
 trace-requires : tie.Need-trace-requires
-trace-requires c κs = 
+trace-requires c κs =
     let s = c .before .before .before .before .before .before .before .before .before in
     let fits = route-fits (s .pre .0) _ (s .args .s) (s .args .t) (s .pre .2) (s .pre .3) (s .args .route .now) (s .pre .6) (c .before .before .before .before .run .ensures) (not-false _ (c .before .if1 .left)) in
     (s .pre .4, omega (arith, s .pre .0), widened (s .pre .0), s .pre .1, fits)
@@ -48,7 +48,7 @@ same-length : tie.Need-same-length
 same-length c = search needs
 
 returns-2 : tie.Need-returns-2
-returns-2 c = 
+returns-2 c =
     let s = c .before .before .before .before .before .before .before .before .before .before .before .before .before .before in
     found-answers (s .pre .0) _ (s .args .s) (s .args .t) (s .pre .2) (s .pre .3) (s .args .route .now) (s .pre .6) (c .before .before .before .before .before .before .before .before .before .run .ensures) (not-false _ (c .before .before .before .before .before .before .if1 .left)) (c .before .before .before .before .trace .ensures)
 

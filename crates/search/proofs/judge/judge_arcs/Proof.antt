@@ -56,7 +56,7 @@ cast-t20 : tie.Need-cast-t20 Inv-loop μ-loop
 cast-t20 c = omega arith
 
 returns : tie.Need-returns Inv-loop μ-loop
-returns c = 
+returns c =
     let a = c .before .before .before .before .before .before .before .before .before .before .args in
     let l = c .before .before .before .before .before .before .loop in
     let R = rows (a .tails .now) (a .heads .now) (a .weights .now) in
@@ -69,14 +69,14 @@ loop-less : tie.Need-loop-less Inv-loop μ-loop
 loop-less c = omega arith
 
 loop-again : tie.Need-loop-again Inv-loop μ-loop
-loop-again c = 
+loop-again c =
     let a = c .before .before .before .before .before .before .before .before .before .before .args in
     let l = c .before .before .before .before .before .before .loop in
     let R = rows (a .tails .now) (a .heads .now) (a .weights .now) in
     (omega arith, each-on _ _ (l .i) (l .inv .1) (at-place (a .n) R (l .i) (sym (c .before .good-arc .ensures) ∙ not-false _ (c .if1 .left))))
 
 returns-2 : tie.Need-returns-2 Inv-loop μ-loop
-returns-2 c = 
+returns-2 c =
     let l = c .before .loop in
     let last : l .i ≡ c .before .before .before .before .before .args .m = omega arith in
     sym (rw last at (l .inv .1))

@@ -59,7 +59,7 @@ enum-told-4 : tie.Need-enum-told-4
 enum-told-4 c = search needs
 
 returns-2 : tie.Need-returns-2
-returns-2 c = 
+returns-2 c =
     on (told (c .before .before .before .before .before)) (c .before .before .before .enum-told .given .1) (out _ (c .before .before .judge-places .ensures) (c .enum-told4 .given .1)) ∙ sym (boxed-judged _ _ _ _ _ _ _ _ _)
 
 judge-boxes-requires : tie.Need-judge-boxes-requires
@@ -72,7 +72,7 @@ enum-told-6 : tie.Need-enum-told-6
 enum-told-6 c = search needs
 
 returns-3 : tie.Need-returns-3
-returns-3 c = 
+returns-3 c =
     on (told (c .before .before .before .before .before .before .before .before)) (c .before .before .before .before .before .before .enum-told .given .1)
     (on (c .before .before .before .before .before .judge-places .ensures) (c .before .before .before .enum-told3 .given .1) (out _ (c .before .before .judge-boxes .ensures) (c .enum-told6 .given .1))) ∙ sym (boxed-judged _ _ _ _ _ _ _ _ _)
 
@@ -80,7 +80,7 @@ judge-ends-requires : tie.Need-judge-ends-requires
 judge-ends-requires c κs = search needs
 
 returns-4 : tie.Need-returns-4
-returns-4 c = 
+returns-4 c =
     on (told (c .before .before .before .before .before .before .before .before .before)) (c .before .before .before .before .before .before .before .enum-told .given .1)
     (on (c .before .before .before .before .before .before .judge-places .ensures) (c .before .before .before .before .enum-told3 .given .1) (on (c .before .before .before .judge-boxes .ensures) (c .before .enum-told5 .given .1) (c .judge-ends .ensures))) ∙ sym (boxed-judged _ _ _ _ _ _ _ _ _)
 

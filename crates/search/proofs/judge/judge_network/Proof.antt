@@ -46,12 +46,12 @@ enum-told-4 c = search needs
 
 returns-2 : tie.Need-returns-2
 unfolding networkJudged
-returns-2 c = 
+returns-2 c =
     on (c .before .before .before .before .before .before .judge-sizes .ensures) (c .before .before .before .before .enum-told .given .1)
     (out _ (asked _ (c .before .before .unless .ensures) (c .before .before .before .arc-rows-long .ensures)) (c .enum-told4 .given .1))
 
 judge-arcs-requires : tie.Need-judge-arcs-requires
-judge-arcs-requires c κs = 
+judge-arcs-requires c κs =
     let a = c .before .before .before .before .before .before .before .before .before .before .args in
     let R = rows (a .tails .now) (a .heads .now) (a .weights .now) in
     let fine = sym (asked (a .others) (c .before .before .unless .ensures) (c .before .before .before .arc-rows-long .ensures)) ∙ c .enum-told3 .given .1 in
@@ -59,7 +59,7 @@ judge-arcs-requires c κs =
 
 returns-3 : tie.Need-returns-3
 unfolding networkJudged
-returns-3 c = 
+returns-3 c =
     on (c .before .before .before .before .before .before .before .judge-sizes .ensures) (c .before .before .before .before .before .enum-told .given .1)
     (on (asked _ (c .before .before .before .unless .ensures) (c .before .before .before .before .arc-rows-long .ensures)) (c .before .enum-told3 .given .1)
     (c .judge-arcs .ensures ∙ sym (last _)))

@@ -53,7 +53,7 @@ start-requires : tie.Need-start-requires Inv-loop μ-loop
 start-requires c κs = omega arith
 
 loop-holds : tie.Need-loop-holds Inv-loop μ-loop
-loop-holds c = 
+loop-holds c =
     let s = c .before .before .before .before in (
       omega arith,
       rw (c .start .ensures) (stage-start (s .pre .2) (s .pre .0) (s .pre .1)),
@@ -70,7 +70,7 @@ enum-told : tie.Need-enum-told Inv-loop μ-loop
 enum-told c = search needs
 
 returns : tie.Need-returns Inv-loop μ-loop
-returns c = 
+returns c =
     let i = c .before .before .before .before .loop in
     stuck _ _ _ _ _ _ (i .count) (i .labels) (i .inv .2) (c .before .before .nearest .ensures) (omega arith) (c .enum-told .given .1)
 
@@ -78,12 +78,12 @@ add-t15 : tie.Need-add-t15 Inv-loop μ-loop
 add-t15 c = omega arith
 
 returns-2 : tie.Need-returns-2 Inv-loop μ-loop
-returns-2 c = 
+returns-2 c =
     let i = c .before .before .before .before .before .before .loop in
     found _ _ _ _ _ _ (i .count) (i .labels) (i .inv .2) (c .before .before .before .before .nearest .ensures) (c .before .before .p .given .1) (omega arith) (c .if1 .taken)
 
 settle-requires : tie.Need-settle-requires Inv-loop μ-loop
-settle-requires c κs = 
+settle-requires c κs =
     let s = c .before .before .before .before .before .before .before .before .before .before .before in
     let i = c .before .before .before .before .before .before .loop in
     let h = ready (s .pre .2) (i .inv .1) (sym (c .before .before .before .before .nearest .ensures) ∙ c .before .before .p .given .1) in
@@ -96,7 +96,7 @@ loop-less : tie.Need-loop-less Inv-loop μ-loop
 loop-less c = omega arith
 
 loop-again : tie.Need-loop-again Inv-loop μ-loop
-loop-again c = 
+loop-again c =
     let s = c .before .before .before .before .before .before .before .before .before .before .before .before in
     let i = c .before .before .before .before .before .before .before .loop in
     let told = c .before .before .before .before .before .nearest .ensures in

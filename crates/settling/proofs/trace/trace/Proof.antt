@@ -12,15 +12,16 @@ use Rattle.settling.proofs.trace.trace.Statement.{statement}
 use Rattle.settling.proofs.trace.trace.Tie as tie
 
 abbrev Inv-loop : tie.InvT-loop
-Inv-loop t m tails heads weights toward boxes route₀ labels v₀ k₀ route v k =
+Inv-loop t m tails heads weights toward boxes route₀ labels count v₀ k₀ route v k =
     (1 ≤ v)
     × (v ≤ 512)
-    × (k ≤ length route)
+    × (k ≤ count)
+    × (count ≤ length route)
     × (length route ≡ length route₀)
     × (traceOf (rows tails heads weights) (keeps toward boxes) m labels k v route ≡ traceOf (rows tails heads weights) (keeps toward boxes) m labels k₀ v₀ route₀)
 
 abbrev μ-loop : tie.MeasureT-loop
-μ-loop t m tails heads weights toward boxes route₀ labels v₀ k₀ route v k = k
+μ-loop t m tails heads weights toward boxes route₀ labels count v₀ k₀ route v k = k
 
 -- the arc found is one of the first m
 arc :
@@ -28,23 +29,23 @@ arc :
     let e = c .before .into .given .0 .0 in (1 ≤ e) × (e ≤ c .before .before .before .before .before .before .before .before .before .before .before .args .m)
 arc c = into-in _ _ _ _ _ _ (sym (c .before .before .before .arc-into .ensures) ∙ c .before .into .given .1)
 
-sub-k : tie.Need-sub-k Inv-loop μ-loop
-sub-k c = omega arith
+sub-count : tie.Need-sub-count Inv-loop μ-loop
+sub-count c = omega arith
 
-mul-k : tie.Need-mul-k Inv-loop μ-loop
-mul-k c = omega arith
+mul-count : tie.Need-mul-count Inv-loop μ-loop
+mul-count c = omega arith
 
-element-copy-out-k : tie.Need-element-copy-out-k Inv-loop μ-loop
-element-copy-out-k c = omega arith
+element-copy-out-count : tie.Need-element-copy-out-count Inv-loop μ-loop
+element-copy-out-count c = omega arith
 
-cast-k : tie.Need-cast-k Inv-loop μ-loop
-cast-k c = search needs
+cast-count : tie.Need-cast-count Inv-loop μ-loop
+cast-count c = search needs
 
 loop-holds : tie.Need-loop-holds Inv-loop μ-loop
-loop-holds c = (omega arith, omega arith, omega arith, refl, refl)
+loop-holds c = (omega arith, omega arith, omega arith, omega arith, refl, refl)
 
 arc-into-requires : tie.Need-arc-into-requires Inv-loop μ-loop
-arc-into-requires c κs = 
+arc-into-requires c κs =
     let p = c .before .before .before .before .before .before .before .pre in
     (omega arith, omega arith, p .2, p .3)
 
@@ -58,16 +59,16 @@ same-length : tie.Need-same-length Inv-loop μ-loop
 same-length c = omega arith
 
 returns : tie.Need-returns Inv-loop μ-loop
-returns c = 
+returns c =
     let a = c .before .before .before .before .before .before .before .before .before .before .args in
     let i = c .before .before .before .before .loop in
     let R = rows (a .tails .now) (a .heads .now) (a .weights .now) in
     let q = sym (c .before .before .arc-into .ensures) ∙ c .enum-told .given .1 in
     let z : i .k - 1 + 1 ≡ i .k = omega arith in
-    sym (trace-stuck R (keeps (a .toward) (a .boxes .now)) (a .m) (a .t1) (i .v) (i .route) (i .k - 1) q) ∙ rw z (i .inv .4)
+    sym (trace-stuck R (keeps (a .toward) (a .boxes .now)) (a .m) (a .t1) (i .v) (i .route) (i .k - 1) q) ∙ rw z (i .inv .5)
 
-sub-k-2 : tie.Need-sub-k-2 Inv-loop μ-loop
-sub-k-2 c = omega arith
+sub-at : tie.Need-sub-at Inv-loop μ-loop
+sub-at c = omega arith
 
 cast-route : tie.Need-cast-route Inv-loop μ-loop
 cast-route c = let h = arc c in omega (arith, c .before .before .before .before .before .before .before .before .before .before .before .pre .2)
@@ -90,11 +91,14 @@ shared-slice-read-v c = let h = arc (c .before) in omega (arith, c .before .befo
 cast-v : tie.Need-cast-v Inv-loop μ-loop
 cast-v c = omega (arith, c .shared-slice-known4 .given (c .before .before .into .given .0 .0 - 1))
 
+sub-k : tie.Need-sub-k Inv-loop μ-loop
+sub-k c = omega arith
+
 loop-less : tie.Need-loop-less Inv-loop μ-loop
 loop-less c = omega arith
 
 loop-again : tie.Need-loop-again Inv-loop μ-loop
-loop-again c = 
+loop-again c =
     let a = c .before .before .before .before .before .before .before .before .before .before .before .before .args in
     let i = c .before .before .before .before .before .before .loop in
     let R = rows (a .tails .now) (a .heads .now) (a .weights .now) in
@@ -105,19 +109,20 @@ loop-again c =
     let z : i .k - 1 + 1 ≡ i .k = omega arith in (
       s .tail-low,
       s .tail-high,
+      omega arith,
       simp length-set (omega arith),
-      simp length-set (i .inv .3),
-      sym (trace-on R (keeps (a .toward) (a .boxes .now)) (a .m) (a .t1) (i .v) (i .route) (i .k - 1) e q) ∙ rw z (i .inv .4),
+      simp length-set (i .inv .4),
+      sym (trace-on R (keeps (a .toward) (a .boxes .now)) (a .m) (a .t1) (i .v) (i .route) (i .k - 1) e q) ∙ rw z (i .inv .5),
     )
 
 same-length-2 : tie.Need-same-length-2 Inv-loop μ-loop
 same-length-2 c = omega arith
 
 returns-2 : tie.Need-returns-2 Inv-loop μ-loop
-returns-2 c = 
+returns-2 c =
     let i = c .before .loop in
     let z : i .k ≡ 0 = omega arith in
-    sym (trace-over _ _ _ _ _ _) ∙ rw z at (i .inv .4)
+    sym (trace-over _ _ _ _ _ _) ∙ rw z at (i .inv .5)
 
 pub trace-spec : {M : Type 1} → statement M
 trace-spec =
@@ -125,17 +130,17 @@ trace-spec =
     (tie.spec
     Inv-loop
     μ-loop
-    sub-k
-    mul-k
-    element-copy-out-k
-    cast-k
+    sub-count
+    mul-count
+    element-copy-out-count
+    cast-count
     loop-holds
     arc-into-requires
     enum-known-into
     enum-told
     same-length
     returns
-    sub-k-2
+    sub-at
     cast-route
     mul-route
     slice-write-route
@@ -143,6 +148,7 @@ trace-spec =
     mul-v
     shared-slice-read-v
     cast-v
+    sub-k
     loop-less
     loop-again
     same-length-2
