@@ -3,12 +3,14 @@ use Prim.Native.Nat.{ℕ, _≤_, _<_}
 use mathlib.Core.Path.{_≡_, refl, sym, ap, _∙_}
 use mathlib.Core.Logic.{_⊎_, inl, inr, ⊎-elim}
 use mathlib.Core.Bool.{Bool, true, false, not, false≢true, true≢false}
-use mathlib.Core.List.{List}
+use mathlib.Core.List.{List, []}
 use native.Mathlib.Omega.{arith}
 use native.Mathlib.Decide.{decLe}
 use borrow.Author.Tests.{not-true}
 use lib.IntN.{ℤ}
-use Rattle.walks.specs.Walk.{Net}
+use Rattle.rules.specs.Paper.{accepted}
+use Rattle.rules.specs.declared.Judged.the-variants.{Fine}
+use Rattle.settling.specs.Toward.{rows}
 use Rattle.walks.specs.Rows.{Rows, Sound, at, network}
 use Rattle.walks.specs.Through.{InS, Consistent}
 use Rattle.walks.specs.Checking.{Misses, FirstMissed}
@@ -25,6 +27,9 @@ use Rattle.drawing.specs.Grown.{Nodes, headBox, grownBy, Started, GrownHead, Gr
 use Rattle.drawing.specs.Missed.{missesB, Lowest}
 use Rattle.drawing.proofs.GrownLaws.{Led, grown-by}
 use Rattle.drawing.proofs.DrawnLaws.{drawn-then}
+use Rattle.boxwork.specs.Judge.{updateJudged}
+use Rattle.boxwork.specs.Says.{UpdateSays, reweighted}
+use Rattle.boxwork.specs.JudgeLaws.{build-fine, check-fine, update-fine, sound-reweighted}
 use Rattle.boxwork.specs.TightLaws.{inS-range}
 use Rattle.boxwork.specs.Tight.{PlaceOf, PlaceOfS, Tight, Updated, HoldsNode}
 
@@ -130,3 +135,14 @@ module _ {n m : ℕ} {R : Rows} (sound : Sound n m R) where
 
     pub missed-none : ((t e : ℕ) → 1 ≤ t → t ≤ n → 1 ≤ e → e ≤ m → missesB R n m boxes x y t e ≡ false) → Consistent (network m R) (HoldsNode x y boxes)
     missed-none h = record { keeps = λ e t i. let r = inS-range sound i in missed-no t e (h t e (r .2) (r .3) (r .0) (r .1)) i }
+
+-- an update that was judged fine, wrote the weight, and grew the boxes
+pub updated-says : {n m : ℕ} {R : Rows} {x y before mid after : List ℤ} {arc weight : ℕ} {weights : List ℕ}
+    → updateJudged n m R x y before arc weight ≡ Fine → weights ≡ reweighted R arc weight .weights
+    → Drawn m (GrownHead (R .heads) x y) before mid → Drawn m (GrownAll (leadsTo (rows (R .tails) (R .heads) weights) n m) x y n) mid after
+    → UpdateSays n m R x y before arc weight (accepted []) weights after
+updated-says {n} {m} {R} {x} {y} {before} {arc = arc} {weight = weight} fine wrote heads all =
+    let u = update-fine n m R x y before arc weight fine in
+    let k = check-fine n m R x y before (u .0) in
+    let sound = sound-reweighted (build-fine n m R x y before (k .0) .sound) arc weight (u .1) (u .2) (u .3) in
+    rw wrote (UpdateSays.updated fine (updated-by sound x y (rw wrote at all) (λ e low high. k .1 e low high .upright) heads))

@@ -1,5 +1,7 @@
 // The box work over rows as they are lent: build, check and update.
 ghost use mathlib.Core.Path.{_≡_};
+ghost use Prim.Native.Nat.{_-_, _≤_};
+ghost use lib.ListN.{length, set};
 ghost use Rattle.rules.specs.Paper.{judgedReply};
 ghost use Rattle.settling.specs.Toward.{rows};
 ghost use Rattle.boxwork.specs.Says.{BuildSays, CheckSays, UpdateSays};
@@ -73,6 +75,14 @@ pub fn check(
     Judged::Refused(Refusal::BoxMisses { arc, node })
 }
 
+// An arc's new weight is written.
+fn set_weight(weights: &mut [u32], arc: u32, weight: u32)
+    requires { ⌜ (1 ≤ arc) × (arc ≤ length (now weights)) ⌝ }
+    ensures { λ _. ⌜ now (weights .exit) ≡ set (now (weights .entry)) (arc - 1) weight ⌝ }
+{
+    weights[arc as usize - 1] = weight;
+}
+
 // Update writes an arc's new weight, and makes each box the smallest that holds its old box and its tight box in the new network.
 pub fn update(
     n: u32,
@@ -103,7 +113,7 @@ pub fn update(
     let Judged::Fine = j else {
         return j;
     };
-    weights[arc as usize - 1] = weight;
+    set_weight(weights, arc, weight);
     drawing::grow::grow_heads(m as usize, heads, x, y, boxes);
     drawing::grow::grow_all(
         n as usize,

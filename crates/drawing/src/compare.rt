@@ -30,12 +30,13 @@ fn clear(
 {
     let mut e: usize = 0;
     while e < k {
+        let next = e + 1;
         if leads(lengths, tails[e], heads[e], weights[e]) {
-            if !geometry::holds(boxes, e + 1, px, py) {
+            if !geometry::holds(boxes, next, px, py) {
                 return e;
             }
         }
-        e += 1;
+        e = next;
     }
     k
 }

@@ -1,14 +1,11 @@
 -- `drawing::compare::clear` meets its contract. The loop's invariant: the boxes of the arcs up to e miss nothing. Assumes nothing.
 use Prim.Native.Nat.{ℕ, _+_, _-_, _*_, _≤_, _<_}
-use mathlib.Core.Path.{_≡_, refl, sym, _∙_, ap}
+use mathlib.Core.Path.{_≡_, sym, _∙_, ap}
 use mathlib.Core.Bool.{true, false, not}
-use mathlib.Core.Logic.{⊎-elim}
 use native.Mathlib.Omega.{arith}
 use mir.Syntax.{w32}
 use mir.Val.{toZ, ofZ}
-use borrow.Author.Needs.{needs}
 use borrow.Author.Tests.{not-true, not-false}
-use lib.ListN.{length, getD}
 use Rattle.walks.specs.Rows.{arc-at}
 use Rattle.settling.specs.Choice.{and-yes, and-no}
 use Rattle.settling.specs.Toward.{rows}
@@ -28,6 +25,9 @@ abbrev μ-loop : tie.MeasureT-loop
 
 loop-holds : tie.Need-loop-holds Inv-loop μ-loop
 loop-holds c = (omega arith, λ i low high. absurd (omega arith))
+
+add-next : tie.Need-add-next Inv-loop μ-loop
+add-next c = omega arith
 
 mul-leads : tie.Need-mul-leads Inv-loop μ-loop
 mul-leads c = omega arith
@@ -52,9 +52,6 @@ leads-requires c κs =
     let a = arc-at (c .before .before .before .before .before .before .before .before .pre .0) (c .before .before .before .before .loop .e) (omega arith) in
     (a .tail-low, a .tail-high, a .head-low, a .head-high)
 
-add-holds : tie.Need-add-holds Inv-loop μ-loop
-add-holds c = omega arith
-
 holds-requires : tie.Need-holds-requires Inv-loop μ-loop
 holds-requires c κs = omega arith
 
@@ -68,24 +65,29 @@ returns c =
     let holds = sym (c .before .holds .ensures) ∙ not-true _ (c .if2 .taken) in
     simp (back (a .px) (s .fits .px .sfits), back (a .py) (s .fits .py .sfits)) at (clear-here (a .k) (l .e) (omega arith) (l .inv .1) (and-yes leads (ap not holds)))
 
-add-e : tie.Need-add-e Inv-loop μ-loop
-add-e c = omega arith
-
 loop-less : tie.Need-loop-less Inv-loop μ-loop
 loop-less c = omega arith
 
+-- the arc leads, and its box holds t
 loop-again : tie.Need-loop-again Inv-loop μ-loop
 loop-again c =
+    let a = c .before .before .before .before .before .before .before .before .before .before .before .before .args in
+    let l = c .before .before .before .before .before .before .before .before .loop in
+    let told = sym (c .before .before .before .leads .ensures) ∙ c .before .before .if1 .taken in
+    let leads = leads-next (rows (a .tails .now) (a .heads .now) (a .weights .now)) (a .lengths .now) (l .e) told in
+    let holds = sym (c .before .holds .ensures) ∙ not-false _ (c .if2 .left) in
+    (omega arith, fails-more (l .inv .1) (and-yes leads (ap not holds)))
+
+loop-less-2 : tie.Need-loop-less-2 Inv-loop μ-loop
+loop-less-2 c = omega arith
+
+-- the arc does not lead
+loop-again-2 : tie.Need-loop-again-2 Inv-loop μ-loop
+loop-again-2 c =
     let a = c .before .before .before .before .before .before .before .before .before .before .args in
     let l = c .before .before .before .before .before .before .loop in
-    let told = sym (c .before .leads .ensures) in
-    let R = rows (a .tails .now) (a .heads .now) (a .weights .now) in (
-      omega arith,
-      ⊎-elim
-      (λ w. fails-more (l .inv .1) (and-yes (leads-next R (a .lengths .now) (l .e) (told ∙ w .0 .taken)) (ap not (sym (w .1 .ensures) ∙ not-false _ (w .2 .left)))))
-      (λ w. fails-more (l .inv .1) (and-no _ (leads-next R (a .lengths .now) (l .e) (told ∙ w .left))))
-      (c .if1 .came),
-    )
+    let told = sym (c .before .leads .ensures) ∙ c .if1 .left in
+    (omega arith, fails-more (l .inv .1) (and-no _ (leads-next (rows (a .tails .now) (a .heads .now) (a .weights .now)) (a .lengths .now) (l .e) told)))
 
 returns-2 : tie.Need-returns-2 Inv-loop μ-loop
 returns-2 c =
@@ -101,6 +103,7 @@ clear-spec =
     Inv-loop
     μ-loop
     loop-holds
+    add-next
     mul-leads
     shared-slice-read-leads
     mul-leads-2
@@ -108,10 +111,10 @@ clear-spec =
     mul-leads-3
     shared-slice-read-leads-3
     leads-requires
-    add-holds
     holds-requires
     returns
-    add-e
     loop-less
     loop-again
+    loop-less-2
+    loop-again-2
     returns-2)
