@@ -34,11 +34,11 @@ use Rattle.boxwork.specs.TightLaws.{inS-range}
 use Rattle.boxwork.specs.Tight.{PlaceOf, PlaceOfS, Tight, Updated, HoldsNode}
 
 -- the heads of sound rows are nodes
-pub heads-nodes : {n m k : ℕ} {R : Rows} → Sound n m R → n ≤ k → Nodes k m (R .heads)
-heads-nodes s h = record {
-  long = s .heads-long;
-  low = λ e low high. s .arcs e low high .head-low;
-  high = λ e low high. let a = s .arcs e low high in omega (arith, a .head-high);
+pub heads-nodes : {n m k j : ℕ} {R : Rows} → Sound n m R → n ≤ k → j ≤ m → Nodes k j (R .heads)
+heads-nodes s h l = record {
+  long = omega (arith, s .heads-long);
+  low = λ e low high. s .arcs e low (omega arith) .head-low;
+  high = λ e low high. let a = s .arcs e low (omega arith) in omega (arith, a .head-high);
 }
 
 -- what holds the places T and encloses t, their smallest box, is the same

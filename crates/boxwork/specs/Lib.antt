@@ -8,3 +8,4 @@ pub mod SaysLaws
 pub mod Agreeing
 pub mod Accepting
 pub mod Demand3
+pub mod Surplus

@@ -40,29 +40,42 @@ cut m R = record { tails = take m (R .tails); heads = take m (R .heads); weights
 -- ---- What is read of a row that is cut
 
 -- it is long enough where the whole row is
-long-cut {ℓ} : {A : Type ℓ} (m : ℕ) (row : List A) → leb m (length (take m row)) ≡ leb m (length row)
+pub long-cut {ℓ} : {A : Type ℓ} (m : ℕ) (row : List A) → leb m (length (take m row)) ≡ leb m (length row)
 long-cut m row = elim (decLe m (length row)) [
   | yes h ↦ le-leb m _ (omega (arith, length-take m row)) ∙ sym (le-leb m _ h)
   | no h ↦ lt-leb m _ (omega (arith, length-take m row)) ∙ sym (lt-leb m _ (omega arith))
 ]
 
-at-cut : (m : ℕ) (row : List ℕ) (i : ℕ) → 1 ≤ i → i ≤ m → at (take m row) i ≡ at row i
+pub at-cut : (m : ℕ) (row : List ℕ) (i : ℕ) → 1 ≤ i → i ≤ m → at (take m row) i ≡ at row i
 at-cut m row i low high = getD-take m row (i - 1) 0 (omega arith)
 
+pub place-cut : (n : ℕ) (row : List ℤ) (i : ℕ) → 1 ≤ i → i ≤ n → coordinate (take n row) i ≡ coordinate row i
+place-cut n row i low high = getD-take n row (i - 1) (pos 0) (omega arith)
+
+pub box-cut : (m : ℕ) (boxes : List ℤ) (e : ℕ) → 1 ≤ e → e ≤ m → boxOf (take (4 * m) boxes) e ≡ boxOf boxes e
+box-cut m boxes e low high =
+    let i = 4 * (e - 1) in
+    rw (
+      getD-take (4 * m) boxes i (pos 0) (omega arith),
+      getD-take (4 * m) boxes (i + 1) (pos 0) (omega arith),
+      getD-take (4 * m) boxes (i + 2) (pos 0) (omega arith),
+      getD-take (4 * m) boxes (i + 3) (pos 0) (omega arith),
+    )
+
 -- judged alike, where the tests agree on 1..n
-each-same : (test test′ : ℕ → Bool) (refuse : ℕ → Refusal) (n : ℕ) → ((i : ℕ) → 1 ≤ i → i ≤ n → test i ≡ test′ i) → each test refuse n ≡ each test′ refuse n
+pub each-same : (test test′ : ℕ → Bool) (refuse : ℕ → Refusal) (n : ℕ) → ((i : ℕ) → 1 ≤ i → i ≤ n → test i ≡ test′ i) → each test refuse n ≡ each test′ refuse n
 unfolding each
 each-same test test′ refuse zero h = refl
 each-same test test′ refuse (suc n) h = rw (each-same test test′ refuse n (λ i low high. h i low (omega arith)), h (suc n) (omega arith) (omega arith))
 
 module _ (n m : ℕ) (R : Rows) where
-  arc-rows-cut : arcRowsLong m (cut m R) ≡ arcRowsLong m R
+  pub arc-rows-cut : arcRowsLong m (cut m R) ≡ arcRowsLong m R
   arc-rows-cut = rw (long-cut m (R .tails), long-cut m (R .heads), long-cut m (R .weights))
 
-  arcs-cut : arcs n m (cut m R) ≡ arcs n m R
+  pub arcs-cut : arcs n m (cut m R) ≡ arcs n m R
   arcs-cut = each-same _ _ BadArc m (λ i low high. rw (at-cut m (R .tails) i low high, at-cut m (R .heads) i low high, at-cut m (R .weights) i low high))
 
-  network-cut : Alike (network m R) (network m (cut m R))
+  pub network-cut : Alike (network m R) (network m (cut m R))
   unfolding network
   network-cut = record {
     there = λ e a. a;
@@ -124,31 +137,18 @@ module _ (n m : ℕ) (R : Rows) (s t : ℕ) (before : List ℕ) where
       (network-cut n m R, l .room, short (λ e. true) before l (other-way (all-arcs (network m R))))) says
 
   module _ (x y boxes : List ℤ) where
-    place-cut : (i : ℕ) → 1 ≤ i → i ≤ n → (row : List ℤ) → coordinate (take n row) i ≡ coordinate row i
-    place-cut i low high row = getD-take n row (i - 1) (pos 0) (omega arith)
-
-    box-cut : (e : ℕ) → 1 ≤ e → e ≤ m → boxOf (take (4 * m) boxes) e ≡ boxOf boxes e
-    box-cut e low high =
-        let i = 4 * (e - 1) in
-        rw (
-          getD-take (4 * m) boxes i (pos 0) (omega arith),
-          getD-take (4 * m) boxes (i + 1) (pos 0) (omega arith),
-          getD-take (4 * m) boxes (i + 2) (pos 0) (omega arith),
-          getD-take (4 * m) boxes (i + 3) (pos 0) (omega arith),
-        )
-
     boxed-judged-cut : boxedJudged n m (cut m R) (take n x) (take n y) (take (4 * m) boxes) s t (length (take n before)) ≡ boxedJudged n m R x y boxes s t (length before)
     unfolding boxedJudged
     boxed-judged-cut =
-        let places = each-same (goodPlace (take n x) (take n y)) (goodPlace x y) BadCoordinate n (λ i low high. rw (place-cut i low high x, place-cut i low high y)) in
-        let shapes = each-same (goodBox (take (4 * m) boxes)) (goodBox boxes) BadBox m (λ e low high. ap wellShapedB (box-cut e low high)) in
+        let places = each-same (goodPlace (take n x) (take n y)) (goodPlace x y) BadCoordinate n (λ i low high. rw (place-cut n x i low high, place-cut n y i low high)) in
+        let shapes = each-same (goodBox (take (4 * m) boxes)) (goodBox boxes) BadBox m (λ e low high. ap wellShapedB (box-cut m boxes e low high)) in
         rw (arc-rows-cut n m R, long-cut n x, long-cut n y, long-cut (4 * m) boxes, long-cut n before, arcs-cut n m R, places, shapes)
 
     holding-cut : 1 ≤ t → t ≤ n → Alike (holding x y boxes t (network m R)) (holding (take n x) (take n y) (take (4 * m) boxes) t (network m (cut m R)))
     unfolding network
     holding-cut low high = record {
-      there = λ e a. (a .0, rw (box-cut e (a .0 .0) (a .0 .1), place-cut t low high x, place-cut t low high y) (a .1));
-      back = λ e a. (a .0, rw (box-cut e (a .0 .0) (a .0 .1), place-cut t low high x, place-cut t low high y) at (a .1));
+      there = λ e a. (a .0, rw (box-cut m boxes e (a .0 .0) (a .0 .1), place-cut n x t low high, place-cut n y t low high) (a .1));
+      back = λ e a. (a .0, rw (box-cut m boxes e (a .0 .0) (a .0 .1), place-cut n x t low high, place-cut n y t low high) at (a .1));
       tail = λ e a. network-cut n m R .tail e (a .0);
       head = λ e a. network-cut n m R .head e (a .0);
       weight = λ e a. network-cut n m R .weight e (a .0);

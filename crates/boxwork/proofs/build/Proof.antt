@@ -36,7 +36,7 @@ returns c = let e = c .enum-told2 .given .1 in rw e (BuildSays.refused (sym (c .
 start-all-requires : tie.Need-start-all-requires
 start-all-requires c κs =
     let l = lent (c .before .before .before) (c .before .enum-told .given .1) in
-    (heads-nodes (l .sound) (l .x-long), heads-nodes (l .sound) (l .y-long), l .boxes-long)
+    (heads-nodes (l .sound) (l .x-long) (omega arith), heads-nodes (l .sound) (l .y-long) (omega arith), omega (arith, l .boxes-long))
 
 grow-all-requires : tie.Need-grow-all-requires
 grow-all-requires c κs =

@@ -49,8 +49,9 @@ set-weight-requires c κs =
 
 grow-heads-requires : tie.Need-grow-heads-requires
 grow-heads-requires c κs =
-    let l = fine (c .before .before .before .before .before .before .before) (c .before .before .before .before .before .enum-told .given .1) .0 in
-    (heads-nodes (l .sound) (l .x-long), heads-nodes (l .sound) (l .y-long), l .boxes-long)
+    let f = fine (c .before .before .before .before .before .before .before) (c .before .before .before .before .before .enum-told .given .1) in
+    let l = f .0 in
+    (heads-nodes (l .sound) (l .x-long) (omega (arith, f .2)), heads-nodes (l .sound) (l .y-long) (omega (arith, f .2)), omega (arith, f .2, l .boxes-long))
 
 grow-all-requires : tie.Need-grow-all-requires
 grow-all-requires c κs =
