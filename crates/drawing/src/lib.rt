@@ -1,12 +1,10 @@
 // Drawing boxes over sound rows: each arc's box is started at its head, grown by the places of its S(e), and compared
 // with them. The labelling from a node t in the reverse network tells for every arc whether t is in its S(e).
 ghost use mathlib.Core.Path.{_≡_};
-ghost use Prim.Native.Nat.{_*_, _≤_};
-ghost use lib.ListN.{length};
+ghost use Prim.Native.Nat.{_≤_};
 ghost use Rattle.walks.specs.Rows.{Sound};
 ghost use Rattle.settling.specs.Toward.{rows};
 ghost use Rattle.drawing.specs.Leads.{lengthsTo};
-use settling::Toward;
 
 pub mod compare;
 pub mod grow;
@@ -23,8 +21,6 @@ fn lengths_to(
     requires { ⌜ (1 ≤ t) × (t ≤ n) × Sound n m (rows (now tails) (now heads) (now weights)) ⌝ }
     ensures { λ r. ⌜ r ≡ lengthsTo (rows (now (tails .entry)) (now (heads .entry)) (now (weights .entry))) n m t ⌝ }
 {
-    let boxes = [0i32; 1];
-    let o = settling::run::run(t, 0, n, m, heads, tails, weights, Toward::Anywhere, &boxes);
-    let labels = o.labels;
+    let labels = settling::run::label_all(t, n, m, heads, tails, weights);
     labels.length
 }
