@@ -51,11 +51,11 @@ with-smallest s h = record {
 module _ {n m : ℕ} {R : Rows} (sound : Sound n m R) where
   -- ---- S(e) by the lengths
 
-  leads-inS : (t e : ℕ) → 1 ≤ t → t ≤ n → 1 ≤ e → e ≤ m → leadsTo R n m t e ≡ true → InS (network m R) e t
+  pub leads-inS : (t e : ℕ) → 1 ≤ t → t ≤ n → 1 ≤ e → e ≤ m → leadsTo R n m t e ≡ true → InS (network m R) e t
   unfolding leadsAt lengthsTo
   leads-inS t e a b c d p = test-inS sound a b e c d p
 
-  inS-leads : (t e : ℕ) → 1 ≤ t → t ≤ n → 1 ≤ e → e ≤ m → InS (network m R) e t → leadsTo R n m t e ≡ true
+  pub inS-leads : (t e : ℕ) → 1 ≤ t → t ≤ n → 1 ≤ e → e ≤ m → InS (network m R) e t → leadsTo R n m t e ≡ true
   unfolding leadsAt lengthsTo
   inS-leads t e a b c d i = inS-test sound a b e c d i
 

@@ -1,0 +1,7 @@
+-- The hall plan of 01, worked through.
+pub mod Computed
+pub mod ComputedLaws
+pub mod Plans
+pub mod Tests
+pub mod Table
+pub mod Learners
