@@ -87,9 +87,9 @@ module _ {n m : ℕ} {R : Rows} (sound : Sound n m R) where
           tight = _;
           is-tight = tight-made;
           smallest = with-smallest (tight-made .smallest) (smallest-same
-            (λ px py. ⊎-elim (⊎-elim inl (λ h. inr (inl h))) (λ h. inr (inr h)))
-            (λ px py. ⊎-elim (λ h. inl (inl h)) (⊎-elim (λ h. inl (inr h)) inr))
-            (led-same made));
+              (λ px py. ⊎-elim (⊎-elim inl (λ h. inr (inl h))) (λ h. inr (inr h)))
+              (λ px py. ⊎-elim (λ h. inl (inl h)) (⊎-elim (λ h. inl (inr h)) inr))
+              (led-same made));
         }
 
   module _ (x y : List ℤ) {before mid after : List ℤ} (grown-all : Drawn m (GrownAll (leadsTo R n m) x y n) mid after) where
@@ -126,11 +126,11 @@ module _ {n m : ℕ} {R : Rows} (sound : Sound n m R) where
     missed-first {e} {t} l = record {
       misses = missed-yes t e (l .node-low) (l .node-high) (l .arc-low) (l .arc-high) (l .passes);
       lowest-arc = λ i j h.
-        let r = inS-range sound (h .member) in
-        elim (decLe e i) [ yes q ↦ q | no q ↦ absurd (h .refused (missed-no j i (l .arc-first j i (r .2) (r .3) (r .0) (omega arith)) (h .member))) ];
+          let r = inS-range sound (h .member) in
+          elim (decLe e i) [ yes q ↦ q | no q ↦ absurd (h .refused (missed-no j i (l .arc-first j i (r .2) (r .3) (r .0) (omega arith)) (h .member))) ];
       lowest-node = λ j h.
-        let r = inS-range sound (h .member) in
-        elim (decLe t j) [ yes q ↦ q | no q ↦ absurd (h .refused (missed-no j e (l .node-first j (r .2) (omega arith)) (h .member))) ];
+          let r = inS-range sound (h .member) in
+          elim (decLe t j) [ yes q ↦ q | no q ↦ absurd (h .refused (missed-no j e (l .node-first j (r .2) (omega arith)) (h .member))) ];
     }
 
     pub missed-none : ((t e : ℕ) → 1 ≤ t → t ≤ n → 1 ≤ e → e ≤ m → missesB R n m boxes x y t e ≡ false) → Consistent (network m R) (HoldsNode x y boxes)

@@ -130,8 +130,8 @@ module _ {n m : ℕ} {R : Rows} (sound : Sound n m R) (arc weight : ℕ) (low : 
     heads-long = sound .heads-long;
     weights-long = simp length-set (sound .weights-long);
     arcs = λ e e-low e-high.
-      let a = sound .arcs e e-low e-high in
-      record { tail-low = a .tail-low; tail-high = a .tail-high; head-low = a .head-low; head-high = a .head-high; weight-high = weight-light e e-low e-high };
+        let a = sound .arcs e e-low e-high in
+        record { tail-low = a .tail-low; tail-high = a .tail-high; head-low = a .head-low; head-high = a .head-high; weight-high = weight-light e e-low e-high };
   }
 
   pub lent-reweighted : {x y boxes : List ℤ} → Lent n m R x y boxes → Lent n m (reweighted R arc weight) x y boxes

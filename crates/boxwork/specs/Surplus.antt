@@ -50,8 +50,8 @@ drawn-cut : {Is Js : ℕ → Box → Box → Type 0} {m : ℕ} {before after : L
 drawn-cut {Js = Js} {m = m} {before = before} {after = after} h d = (
   record {
     boxes = λ e low high.
-      subst (λ (b : Box). Js e b (boxOf (take (4 * m) after) e)) (sym (box-cut m before e low high))
-      (subst (Js e (boxOf before e)) (sym (box-cut m after e low high)) (h e low high (d .boxes e low high)));
+        subst (λ (b : Box). Js e b (boxOf (take (4 * m) after) e)) (sym (box-cut m before e low high))
+        (subst (Js e (boxOf before e)) (sym (box-cut m after e low high)) (h e low high (d .boxes e low high)));
     rest = λ i h. past-cut (4 * m) after i h ∙ sym (past-cut (4 * m) before i h);
     long = length-take (4 * m) after ∙ (ap (λ (l : ℕ). min (4 * m) l) (d .long) ∙ sym (length-take (4 * m) before));
   },
@@ -86,13 +86,13 @@ module _ {n m : ℕ} {R : Rows} (sound : Sound n m R) (x y : List ℤ) where
     pub tight-cut : {b : Box} → Tight (network m R) x y e b → Tight (network m (cut m R)) (take n x) (take n y) e b
     tight-cut p = record {
       smallest = smallest-same
-        (λ px py. ⊎-elim
-        (λ h. inl (subst (λ (v : ℕ). PlaceOf (take n x) (take n y) v px py) head-same (place-there _ head-low head-high h)))
-        (λ s. let r = inS-range sound (s .member) in inr (record { node = s .node; member = inS-alike (network-cut n m R) (s .member); place = place-there (s .node) (r .2) (r .3) (s .place) })))
-        (λ px py. ⊎-elim
-        (λ h. inl (place-back _ head-low head-high (subst (λ (v : ℕ). PlaceOf (take n x) (take n y) v px py) (sym head-same) h)))
-        (λ s. let i = inS-back (s .member) in let r = inS-range sound i in inr (record { node = s .node; member = i; place = place-back (s .node) (r .2) (r .3) (s .place) })))
-        (p .smallest);
+          (λ px py. ⊎-elim
+          (λ h. inl (subst (λ (v : ℕ). PlaceOf (take n x) (take n y) v px py) head-same (place-there _ head-low head-high h)))
+          (λ s. let r = inS-range sound (s .member) in inr (record { node = s .node; member = inS-alike (network-cut n m R) (s .member); place = place-there (s .node) (r .2) (r .3) (s .place) })))
+          (λ px py. ⊎-elim
+          (λ h. inl (place-back _ head-low head-high (subst (λ (v : ℕ). PlaceOf (take n x) (take n y) v px py) (sym head-same) h)))
+          (λ s. let i = inS-back (s .member) in let r = inS-range sound i in inr (record { node = s .node; member = i; place = place-back (s .node) (r .2) (r .3) (s .place) })))
+          (p .smallest);
     }
 
     pub updated-cut : {old new : Box} → Updated (network m R) x y e old new → Updated (network m (cut m R)) (take n x) (take n y) e old new
@@ -176,12 +176,12 @@ module _
     (rows : cut m R ≡ cut m R′) (ex : take n x ≡ take n x′) (ey : take n y ≡ take n y′) (eb : take (4 * m) boxes ≡ take (4 * m) boxes′)
     {reply reply′ : Reply}
   where
-  pub build-surplus : {after after′ : List ℤ} → BuildSays n m R x y boxes reply after → BuildSays n m R′ x′ y′ boxes′ reply′ after′ → (reply ≡ reply′) × (take (4 * m) after ≡ take (4 * m) after′)
-  build-surplus p q = build-unique (rw (rows, ex, ey, eb) at (build-cut p .0)) (build-cut q .0)
+    pub build-surplus : {after after′ : List ℤ} → BuildSays n m R x y boxes reply after → BuildSays n m R′ x′ y′ boxes′ reply′ after′ → (reply ≡ reply′) × (take (4 * m) after ≡ take (4 * m) after′)
+    build-surplus p q = build-unique (rw (rows, ex, ey, eb) at (build-cut p .0)) (build-cut q .0)
 
-  pub check-surplus : CheckSays n m R x y boxes reply → CheckSays n m R′ x′ y′ boxes′ reply′ → reply ≡ reply′
-  check-surplus p q = check-unique (rw (rows, ex, ey, eb) at (check-cut p)) (check-cut q)
+    pub check-surplus : CheckSays n m R x y boxes reply → CheckSays n m R′ x′ y′ boxes′ reply′ → reply ≡ reply′
+    check-surplus p q = check-unique (rw (rows, ex, ey, eb) at (check-cut p)) (check-cut q)
 
-  pub update-surplus : {arc weight : ℕ} {weights weights′ : List ℕ} {after after′ : List ℤ} → UpdateSays n m R x y boxes arc weight reply weights after → UpdateSays n m R′ x′ y′ boxes′ arc weight reply′ weights′ after′
-      → (reply ≡ reply′) × (take m weights ≡ take m weights′) × (take (4 * m) after ≡ take (4 * m) after′)
-  update-surplus p q = update-unique (rw (rows, ex, ey, eb) at (update-cut p .0)) (update-cut q .0)
+    pub update-surplus : {arc weight : ℕ} {weights weights′ : List ℕ} {after after′ : List ℤ} → UpdateSays n m R x y boxes arc weight reply weights after → UpdateSays n m R′ x′ y′ boxes′ arc weight reply′ weights′ after′
+        → (reply ≡ reply′) × (take m weights ≡ take m weights′) × (take (4 * m) after ≡ take (4 * m) after′)
+    update-surplus p q = update-unique (rw (rows, ex, ey, eb) at (update-cut p .0)) (update-cut q .0)

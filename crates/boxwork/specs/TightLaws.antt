@@ -82,14 +82,14 @@ module _ {N : Net} {x y : List ℤ} {e : ℕ} where
 
   -- where the places of the head and of S(e) are within limits
   module _ (head : Within (coordinate x (N .head e)) × Within (coordinate y (N .head e)))
-    (nodes : (t : ℕ) → InS N e t → Within (coordinate x t) × Within (coordinate y t))
+      (nodes : (t : ℕ) → InS N e t → Within (coordinate x t) × Within (coordinate y t))
     where
-    pub tight-shaped : {b : Box} → Tight N x y e b → WellShaped b
-    tight-shaped p =
-        smallest-shaped (tight-upright p) (p .smallest) (λ px py. ⊎-elim
-        (λ h. rw (h .0, h .1) (in-limits (head .0) (head .1)))
-        (λ s. let w = nodes (s .node) (s .member) in rw (s .place .0, s .place .1) (in-limits (w .0) (w .1))))
+      pub tight-shaped : {b : Box} → Tight N x y e b → WellShaped b
+      tight-shaped p =
+          smallest-shaped (tight-upright p) (p .smallest) (λ px py. ⊎-elim
+          (λ h. rw (h .0, h .1) (in-limits (head .0) (head .1)))
+          (λ s. let w = nodes (s .node) (s .member) in rw (s .place .0, s .place .1) (in-limits (w .0) (w .1))))
 
-    pub updated-shaped : {old new : Box} → WellShaped old → Updated N x y e old new → WellShaped new
-    updated-shaped w p =
-        smallest-shaped (updated-upright p) (p .smallest) (λ px py. ⊎-elim (shaped-limits w px py) (shaped-limits (tight-shaped (p .is-tight)) px py))
+      pub updated-shaped : {old new : Box} → WellShaped old → Updated N x y e old new → WellShaped new
+      updated-shaped w p =
+          smallest-shaped (updated-upright p) (p .smallest) (λ px py. ⊎-elim (shaped-limits w px py) (shaped-limits (tight-shaped (p .is-tight)) px py))

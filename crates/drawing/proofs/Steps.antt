@@ -91,6 +91,6 @@ first-arcs s k h = record {
   heads-long = omega (arith, s .heads-long);
   weights-long = omega (arith, s .weights-long);
   arcs = λ e low high.
-    let a = s .arcs e low (omega arith) in
-    record { tail-low = a .tail-low; tail-high = omega (arith, s .nodes-high); head-low = a .head-low; head-high = omega (arith, s .nodes-high); weight-high = a .weight-high };
+      let a = s .arcs e low (omega arith) in
+      record { tail-low = a .tail-low; tail-high = omega (arith, s .nodes-high); head-low = a .head-low; head-high = omega (arith, s .nodes-high); weight-high = a .weight-high };
 }

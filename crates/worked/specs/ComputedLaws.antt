@@ -127,18 +127,18 @@ module _ (test : ℕ → ℕ → Bool) (n : ℕ) where
       let v = lowestNode test n e k in
       cond-by (Node e (suc k)) (eqb v 0) _ _
       (λ z. let v0 = eqb-true v 0 z in cond-by (Node e (suc k)) (test (suc k) e) _ _
-        (λ p. record {
-          most = omega arith;
-          none = λ q. absurd (omega arith);
-          passes = λ h. p;
-          first = λ j low high. r .none v0 j low (omega arith);
-        })
-        (λ p. record {
-          most = omega arith;
-          none = λ q j low high. elim (ℕ-discrete j (suc k)) [ yes same ↦ ap (λ (i : ℕ). test i e) same ∙ p | no other ↦ r .none v0 j low (omega arith) ];
-          passes = λ h. absurd (omega arith);
-          first = λ j low high. absurd (omega arith);
-        }))
+      (λ p. record {
+        most = omega arith;
+        none = λ q. absurd (omega arith);
+        passes = λ h. p;
+        first = λ j low high. r .none v0 j low (omega arith);
+      })
+      (λ p. record {
+        most = omega arith;
+        none = λ q j low high. elim (ℕ-discrete j (suc k)) [ yes same ↦ ap (λ (i : ℕ). test i e) same ∙ p | no other ↦ r .none v0 j low (omega arith) ];
+        passes = λ h. absurd (omega arith);
+        first = λ j low high. absurd (omega arith);
+      }))
       (λ z. record {
         most = omega (arith, r .most);
         none = λ q. absurd (eqb-false v 0 z q);

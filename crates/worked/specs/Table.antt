@@ -179,9 +179,9 @@ each-right (c ∷ cs) h = let p = and-true (passes c) (allPass cs) h in line (pa
 -- THE THEOREM: every line of the table is right
 pub table-right : Each Right table
 unfolding
-  table allPass passes hall reweightedHall oneWay zeros behind west hallBoxes raisedBoxes fullBoxes treeBoxes blank route
-  orTold answerOf searchTold boxedTold drawnTo buildTold updateTold lowestNode orArc lowestArc checkTold membersFrom
-  networkJudged searchJudged boxedJudged buildJudged checkJudged updateJudged each smaller larger
-  before startOf labelled offered marked arcStep relaxed settleOf better leaderOf nearestOf afterPick runOf
-  fits firstOf arcFits intoOf afterInto traceOf onShortest leadsAt lengthsTo grownIf grownBy missesB
+    table allPass passes hall reweightedHall oneWay zeros behind west hallBoxes raisedBoxes fullBoxes treeBoxes blank route
+    orTold answerOf searchTold boxedTold drawnTo buildTold updateTold lowestNode orArc lowestArc checkTold membersFrom
+    networkJudged searchJudged boxedJudged buildJudged checkJudged updateJudged each smaller larger
+    before startOf labelled offered marked arcStep relaxed settleOf better leaderOf nearestOf afterPick runOf
+    fits firstOf arcFits intoOf afterInto traceOf onShortest leadsAt lengthsTo grownIf grownBy missesB
 table-right = each-right table refl

@@ -70,9 +70,9 @@ loop-again c =
     let R = rows (a .tails .now) (a .heads .now) (a .weights .now) in (
       omega arith,
       ⊎-elim
-      (λ w. grow-turn _ _ _ (l .inv .1) (leads-next R (a .lengths .now) (l .e) (told ∙ w .0 .taken)) (omega arith) (w .4 ∙ w .2 .ensures))
-      (λ w. skip-turn _ _ _ (l .inv .1) (leads-next R (a .lengths .now) (l .e) (told ∙ w .0 .left)) (w .1))
-      (c .if1 .came),
+          (λ w. grow-turn _ _ _ (l .inv .1) (leads-next R (a .lengths .now) (l .e) (told ∙ w .0 .taken)) (omega arith) (w .4 ∙ w .2 .ensures))
+          (λ w. skip-turn _ _ _ (l .inv .1) (leads-next R (a .lengths .now) (l .e) (told ∙ w .0 .left)) (w .1))
+          (c .if1 .came),
     )
 
 same-length : tie.Need-same-length Inv-loop μ-loop
