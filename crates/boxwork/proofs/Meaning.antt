@@ -1,8 +1,8 @@
 -- What the loops of `drawing` leave is what the statements say: tight and updated boxes, and the first missed node. Assumes nothing.
-use Prim.Native.Nat.{ℕ, _≤_, _<_}
-use mathlib.Core.Path.{_≡_, refl, sym, ap, _∙_}
+use Prim.Native.Nat.{ℕ, _≤_}
+use mathlib.Core.Path.{_≡_, sym, ap, _∙_}
 use mathlib.Core.Logic.{_⊎_, inl, inr, ⊎-elim}
-use mathlib.Core.Bool.{Bool, true, false, not, false≢true, true≢false}
+use mathlib.Core.Bool.{Bool, true, false, not, false≢true}
 use mathlib.Core.List.{List, []}
 use native.Mathlib.Omega.{arith}
 use native.Mathlib.Decide.{decLe}
@@ -31,7 +31,7 @@ use Rattle.boxwork.specs.Judge.{updateJudged}
 use Rattle.boxwork.specs.Says.{UpdateSays, reweighted}
 use Rattle.boxwork.specs.JudgeLaws.{build-fine, check-fine, update-fine, sound-reweighted}
 use Rattle.boxwork.specs.TightLaws.{inS-range}
-use Rattle.boxwork.specs.Tight.{PlaceOf, PlaceOfS, Tight, Updated, HoldsNode}
+use Rattle.boxwork.specs.Tight.{PlaceOfS, Tight, Updated, HoldsNode}
 
 -- the heads of sound rows are nodes
 pub heads-nodes : {n m k j : ℕ} {R : Rows} → Sound n m R → n ≤ k → j ≤ m → Nodes k j (R .heads)

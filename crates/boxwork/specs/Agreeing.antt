@@ -1,28 +1,26 @@
 -- Searches in two networks that answer alike agree in what they say. Assumes nothing.
-use Prim.Native.Nat.{ℕ, _≤_}
-use mathlib.Core.Path.{_≡_, refl, sym, ap, _∙_}
-use mathlib.Core.Bool.{Bool, true, _&&_}
-use mathlib.Core.List.{List, [], _∷_, _++_}
+use Prim.Native.Nat.{ℕ}
+use mathlib.Core.Path.{_≡_, refl, sym, _∙_}
+use mathlib.Core.Bool.{_&&_}
+use mathlib.Core.List.{List, [], _∷_}
 use native.Mathlib.Omega.{arith}
-use borrow.Author.Tests.{le-leb}
 use lib.IntN.{ℤ}
-use lib.ListN.{length, drop}
+use lib.ListN.{length}
 use lib.Dec.{leb}
 use Rattle.rules.specs.Paper.{Reply, accepted, refusal}
-use Rattle.rules.specs.Judging.{orElse, each}
+use Rattle.rules.specs.Judging.{each}
 use Rattle.rules.specs.declared.Judged.{Judged}
 use Rattle.rules.specs.declared.Judged.the-variants.{Fine}
 use Rattle.rules.specs.declared.Refusal.{Refusal}
 use Rattle.rules.specs.declared.Refusal.the-variants.{NoWalk, BadCoordinate, BadBox}
 use Rattle.walks.specs.Walk.{Net}
 use Rattle.walks.specs.Rows.{Rows}
-use Rattle.walks.specs.Least.{Reached}
 use Rattle.walks.specs.LeastLaws.{best-length, best-count}
 use Rattle.walks.specs.RouteLaws.{route-unique}
 use Rattle.walks.specs.Pruning.{SameAnswers}
 use Rattle.geometry.specs.Row.{goodPlace, goodBox}
 use Rattle.settling.specs.Choice.{and-yes}
-use Rattle.search.specs.Judge.{boxRowsLong, networkJudged, ends, searchJudged, boxedJudged}
+use Rattle.search.specs.Judge.{boxRowsLong, networkJudged, searchJudged, boxedJudged}
 use Rattle.search.specs.JudgeLaws.{both-fine, search-judged, boxed-judged, network-fine}
 use Rattle.search.specs.Says.{Answers, found, none, Says, refused, answered}
 use Rattle.boxwork.specs.Judge.{buildJudged, checkJudged}

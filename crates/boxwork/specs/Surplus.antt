@@ -1,32 +1,29 @@
 -- Surplus is neither read nor written: build, check and update are those over the rows cut to the places that are needed, and the
 -- places beyond keep their contents. Assumes nothing.
-use Prim.Native.Nat.{ℕ, zero, suc, _+_, _-_, _*_, _≤_, _<_, min}
+use Prim.Native.Nat.{ℕ, zero, suc, _+_, _-_, _*_, _≤_, min}
 use mathlib.Core.Path.{_≡_, refl, sym, ap, _∙_, subst}
-use mathlib.Core.Logic.{_⊎_, inl, inr, ⊎-elim}
-use mathlib.Core.Bool.{Bool, _&&_}
+use mathlib.Core.Logic.{inl, inr, ⊎-elim}
 use mathlib.Core.List.{List, [], _∷_}
 use native.Mathlib.Omega.{arith}
-use native.Mathlib.Decide.{decLt}
 use lib.IntN.{ℤ, pos}
-use lib.ListN.{length, getD, take, drop, length-take, length-drop}
-use lib.Seq.{getD-take, getD-drop, ext-getD, take-set-lt, drop-set-lt}
+use lib.ListN.{length, take, drop, length-take, length-drop}
+use lib.Seq.{getD-drop, ext-getD, take-set-lt, drop-set-lt}
 use Rattle.rules.specs.Paper.{Reply}
 use Rattle.rules.specs.Judging.{each}
 use Rattle.rules.specs.declared.Refusal.the-variants.{BadCoordinate, BadBox}
-use Rattle.walks.specs.Walk.{Net}
 use Rattle.walks.specs.Rows.{Rows, Sound, network}
-use Rattle.walks.specs.Through.{InS, Consistent}
-use Rattle.walks.specs.Checking.{Misses, FirstMissed}
-use Rattle.geometry.specs.Box.{Box, Holds, wellShapedB}
-use Rattle.geometry.specs.Row.{coordinate, number, boxOf, goodPlace, goodBox}
+use Rattle.walks.specs.Through.{InS}
+use Rattle.walks.specs.Checking.{Misses}
+use Rattle.geometry.specs.Box.{Box, wellShapedB}
+use Rattle.geometry.specs.Row.{number, boxOf, goodPlace, goodBox}
 use Rattle.geometry.proofs.SmallestLaws.{smallest-same}
-use Rattle.search.specs.Alike.{Alike, other-way, inS-alike}
+use Rattle.search.specs.Alike.{other-way, inS-alike}
 use Rattle.search.specs.Surplus.{cut, long-cut, place-cut, box-cut, each-same, arc-rows-cut, arcs-cut, network-cut}
 use Rattle.drawing.specs.Drawn.{Drawn}
-use Rattle.boxwork.specs.Tight.{PlaceOf, PlaceOfS, Tight, Updated, HoldsNode}
+use Rattle.boxwork.specs.Tight.{PlaceOf, Tight, Updated, HoldsNode}
 use Rattle.boxwork.specs.TightLaws.{inS-range}
 use Rattle.boxwork.specs.Judge.{buildJudged, checkJudged, updateJudged}
-use Rattle.boxwork.specs.JudgeLaws.{Lent, build-fine, check-fine, update-fine, sound-reweighted}
+use Rattle.boxwork.specs.JudgeLaws.{build-fine, check-fine, update-fine, sound-reweighted}
 use Rattle.boxwork.specs.Says.{BuildSays, CheckSays, UpdateSays, reweighted}
 use Rattle.boxwork.specs.SaysLaws.{build-unique, check-unique, update-unique}
 

@@ -1,10 +1,9 @@
 -- Laws of tight and updated boxes: there is one only, it holds S(e), and it is well shaped. Assumes nothing.
 use Prim.Native.Nat.{ℕ, _≤_}
-use mathlib.Core.Path.{_≡_, refl, sym, subst}
+use mathlib.Core.Path.{_≡_, refl, subst}
 use mathlib.Core.Logic.{_⊎_, inl, inr, ⊎-elim}
 use mathlib.Core.List.{List}
 use lib.IntN.{ℤ}
-use lib.Signed.{_≤ℤ_}
 use Rattle.rules.specs.Limits.{leastCoordinate, mostCoordinate}
 use Rattle.walks.specs.Walk.{Net}
 use Rattle.walks.specs.Rows.{Rows, Sound, network}
@@ -14,7 +13,7 @@ use Rattle.geometry.specs.Box.{Box, Holds, Within, Upright, WellShaped, Smalles
 use Rattle.geometry.specs.Row.{coordinate}
 use Rattle.geometry.proofs.Order.{≤ℤ-trans}
 use Rattle.geometry.proofs.SmallestLaws.{smallest-unique, low-corner, high-corner}
-use Rattle.boxwork.specs.Tight.{PlaceOf, PlaceOfS, Tight, Updated}
+use Rattle.boxwork.specs.Tight.{Tight, Updated}
 
 -- S(e) of sound rows is of an arc of 1..m, and has nodes of 1..n only
 pub inS-range : {n m : ℕ} {R : Rows} {e t : ℕ} → Sound n m R → InS (network m R) e t → (1 ≤ e) × (e ≤ m) × (1 ≤ t) × (t ≤ n)

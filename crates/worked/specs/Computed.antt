@@ -1,5 +1,5 @@
 -- What search, build, check and update tell, computed: by the definitions that the code's steps meet. Assumes nothing.
-use Prim.Native.Nat.{ℕ, zero, suc, _+_, _-_}
+use Prim.Native.Nat.{ℕ, zero, suc, _+_}
 use mathlib.Core.Bool.{Bool, true, cond}
 use mathlib.Core.List.{List, [], _∷_}
 use lib.IntN.{ℤ}

@@ -2,25 +2,24 @@
 use Prim.Native.Nat.{ℕ, zero, suc, _+_, _*_, _≤_, _<_}
 use mathlib.Core.Path.{_≡_, refl, sym, ap, _∙_, subst}
 use mathlib.Core.Logic.{_⊎_, inl, inr, ⊎-elim, _↔_}
-use mathlib.Core.Bool.{Bool, true, false, cond, false≢true}
+use mathlib.Core.Bool.{Bool, true, false, false≢true}
 use mathlib.Core.List.{List, [], _∷_}
 use native.Mathlib.Omega.{arith}
 use native.Mathlib.Numerals.{add-one}
-use native.Mathlib.Decide.{ℕ-discrete, decLe}
+use native.Mathlib.Decide.{ℕ-discrete}
 use borrow.Author.Tests.{eqb-true, eqb-false}
 use lib.IntN.{ℤ}
 use lib.ListN.{length}
 use lib.Dec.{eqb}
-use Rattle.rules.specs.Paper.{Reply, accepted, refusal}
+use Rattle.rules.specs.Paper.{accepted}
 use Rattle.rules.specs.declared.Judged.{Judged}
 use Rattle.rules.specs.declared.Judged.the-variants.{Fine, Refused}
 use Rattle.walks.specs.Walk.{Net, kept}
 use Rattle.walks.specs.Rows.{Rows, Sound, network}
 use Rattle.walks.specs.Through.{InS}
 use Rattle.geometry.specs.Box.{Box}
-use Rattle.geometry.specs.Row.{coordinate, boxOf}
-use Rattle.settling.specs.declared.Outcome.{Outcome}
-use Rattle.settling.specs.Choice.{cond-by, either}
+use Rattle.geometry.specs.Row.{boxOf}
+use Rattle.settling.specs.Choice.{cond-by}
 use Rattle.settling.specs.Run.{searchOf}
 use Rattle.search.specs.Judge.{searchJudged, boxedJudged}
 use Rattle.search.specs.JudgeLaws.{Lent, search-fine, boxed-fine}
@@ -31,9 +30,8 @@ use Rattle.drawing.specs.declared.compare.Missed.{Missed}
 use Rattle.drawing.specs.declared.compare.Missed.the-variants.{Nothing, At}
 use Rattle.drawing.specs.Drawn.{Drawn}
 use Rattle.drawing.specs.Leads.{leadsTo}
-use Rattle.drawing.specs.Missed.{missesB, Lowest, FirstOf}
+use Rattle.drawing.specs.Missed.{missesB, FirstOf}
 use Rattle.drawing.proofs.DrawnLaws.{drawn-none, drawn-next}
-use Rattle.boxwork.specs.Tight.{Tight, Updated}
 use Rattle.boxwork.specs.TightLaws.{inS-range}
 use Rattle.boxwork.specs.Judge.{buildJudged, checkJudged, updateJudged}
 use Rattle.boxwork.specs.JudgeLaws.{build-fine, check-fine, update-fine, sound-reweighted}

@@ -1,6 +1,5 @@
 -- Learners' error 2: a box that is started at 0, 0 and grown is not what build writes. Assumes nothing.
-use Prim.Native.Nat.{ℕ}
-use mathlib.Core.Path.{_≡_, refl, sym, ap}
+use mathlib.Core.Path.{sym, ap}
 use mathlib.Core.List.{List, [], _∷_}
 use lib.IntN.{ℤ, pos, negsuc, pos-ne-negsuc}
 use Rattle.rules.specs.Paper.{accepted}

@@ -1,6 +1,6 @@
 -- The starred lines of 01, and the errors that learners bring: one table under one statement. The statement is made of the functions'
 -- own relations, so that each line says what a function replies and writes. Assumes nothing.
-use Prim.Native.Nat.{ℕ, _≤_}
+use Prim.Native.Nat.{ℕ}
 use mathlib.Core.Path.{_≡_, refl, subst}
 use mathlib.Core.Logic.{_↔_}
 use mathlib.Core.Bool.{Bool, true, _&&_}
@@ -8,7 +8,7 @@ use mathlib.Core.List.{List, [], _∷_}
 use borrow.Author.Tests.{leb-true}
 use lib.Dec.{leb}
 use lib.IntN.{ℤ, pos, negsuc}
-use Rattle.rules.specs.Paper.{Reply, accepted, refusal}
+use Rattle.rules.specs.Paper.{accepted, refusal}
 use Rattle.rules.specs.Judging.{each}
 use Rattle.rules.specs.declared.Refusal.the-variants.{NoWalk, BoxMisses}
 use Rattle.walks.specs.Walk.{WalkBy}

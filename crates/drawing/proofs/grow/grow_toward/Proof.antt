@@ -1,12 +1,10 @@
 -- `drawing::grow::grow_toward` meets its contract. The loop's invariant: the boxes of the arcs up to e are drawn. Assumes nothing.
-use Prim.Native.Nat.{ℕ, _+_, _-_, _*_, _≤_, _<_}
-use mathlib.Core.Path.{_≡_, refl, sym, _∙_, ap}
+use Prim.Native.Nat.{_-_, _≤_}
+use mathlib.Core.Path.{_≡_, sym, _∙_}
 use mathlib.Core.Logic.{⊎-elim}
 use native.Mathlib.Omega.{arith}
 use mir.Syntax.{w32}
-use mir.Val.{toZ, ofZ}
-use borrow.Author.Needs.{needs}
-use lib.ListN.{length, getD}
+use mir.Val.{toZ}
 use Rattle.walks.specs.Rows.{arc-at}
 use Rattle.settling.specs.Toward.{rows}
 use Rattle.geometry.proofs.Signed.{back}
