@@ -18,7 +18,7 @@ use Rattle.geometry.specs.Box.{Box, wellShapedB}
 use Rattle.geometry.specs.Row.{number, boxOf, goodPlace, goodBox}
 use Rattle.geometry.proofs.SmallestLaws.{smallest-same}
 use Rattle.search.specs.Alike.{other-way, inS-alike}
-use Rattle.search.specs.Surplus.{cut, long-cut, place-cut, box-cut, each-same, arc-rows-cut, arcs-cut, network-cut}
+use Rattle.search.specs.Cut.{cut, place-cut, box-cut, arc-rows-cut, arcs-cut, network-cut, box-rows-cut, places-cut, boxes-cut}
 use Rattle.drawing.specs.Drawn.{Drawn}
 use Rattle.boxwork.specs.Tight.{PlaceOf, Tight, Updated, HoldsNode}
 use Rattle.boxwork.specs.TightLaws.{inS-range}
@@ -65,12 +65,12 @@ module _ {n m : ℕ} {R : Rows} (sound : Sound n m R) (x y : List ℤ) where
   place-back node low high p = (p .0 ∙ place-cut n x node low high, p .1 ∙ place-cut n y node low high)
 
   inS-back : {e t : ℕ} → InS (network m (cut m R)) e t → InS (network m R) e t
-  inS-back i = inS-alike (other-way (network-cut n m R)) i
+  inS-back i = inS-alike (other-way (network-cut m R)) i
 
   module _ (e : ℕ) (low : 1 ≤ e) (high : e ≤ m) where
     head-same : network m R .head e ≡ network m (cut m R) .head e
     unfolding network
-    head-same = network-cut n m R .head e (low, high)
+    head-same = network-cut m R .head e (low, high)
 
     head-low : 1 ≤ network m R .head e
     unfolding network
@@ -85,7 +85,7 @@ module _ {n m : ℕ} {R : Rows} (sound : Sound n m R) (x y : List ℤ) where
       smallest = smallest-same
           (λ px py. ⊎-elim
           (λ h. inl (subst (λ (v : ℕ). PlaceOf (take n x) (take n y) v px py) head-same (place-there _ head-low head-high h)))
-          (λ s. let r = inS-range sound (s .member) in inr (record { node = s .node; member = inS-alike (network-cut n m R) (s .member); place = place-there (s .node) (r .2) (r .3) (s .place) })))
+          (λ s. let r = inS-range sound (s .member) in inr (record { node = s .node; member = inS-alike (network-cut m R) (s .member); place = place-there (s .node) (r .2) (r .3) (s .place) })))
           (λ px py. ⊎-elim
           (λ h. inl (place-back _ head-low head-high (subst (λ (v : ℕ). PlaceOf (take n x) (take n y) v px py) (sym head-same) h)))
           (λ s. let i = inS-back (s .member) in let r = inS-range sound i in inr (record { node = s .node; member = i; place = place-back (s .node) (r .2) (r .3) (s .place) })))
@@ -103,7 +103,7 @@ module _ {n m : ℕ} {R : Rows} (sound : Sound n m R) (x y : List ℤ) where
     holds-back e t i h = let r = inS-range sound i in rw (box-cut m boxes e (r .0) (r .1), place-cut n x t (r .2) (r .3), place-cut n y t (r .2) (r .3)) at h
 
     misses-there : {e t : ℕ} → Misses (network m R) (HoldsNode x y boxes) e t → Misses (network m (cut m R)) (HoldsNode (take n x) (take n y) (take (4 * m) boxes)) e t
-    misses-there {e} {t} h = record { member = inS-alike (network-cut n m R) (h .member); refused = λ k. h .refused (holds-back e t (h .member) k) }
+    misses-there {e} {t} h = record { member = inS-alike (network-cut m R) (h .member); refused = λ k. h .refused (holds-back e t (h .member) k) }
 
     misses-back : {e t : ℕ} → Misses (network m (cut m R)) (HoldsNode (take n x) (take n y) (take (4 * m) boxes)) e t → Misses (network m R) (HoldsNode x y boxes) e t
     misses-back {e} {t} h = let i = inS-back (h .member) in record { member = i; refused = λ k. h .refused (holds-there e t i k) }
@@ -111,23 +111,17 @@ module _ {n m : ℕ} {R : Rows} (sound : Sound n m R) (x y : List ℤ) where
 -- ---- Judged alike
 
 module _ (n m : ℕ) (R : Rows) (x y boxes : List ℤ) where
-  places-same : each (goodPlace (take n x) (take n y)) BadCoordinate n ≡ each (goodPlace x y) BadCoordinate n
-  places-same = each-same (goodPlace (take n x) (take n y)) (goodPlace x y) BadCoordinate n (λ i low high. rw (place-cut n x i low high, place-cut n y i low high))
-
-  shapes-same : each (goodBox (take (4 * m) boxes)) BadBox m ≡ each (goodBox boxes) BadBox m
-  shapes-same = each-same (goodBox (take (4 * m) boxes)) (goodBox boxes) BadBox m (λ e low high. ap wellShapedB (box-cut m boxes e low high))
-
   build-judged-cut : buildJudged n m (cut m R) (take n x) (take n y) (take (4 * m) boxes) ≡ buildJudged n m R x y boxes
   unfolding buildJudged
-  build-judged-cut = rw (arc-rows-cut n m R, long-cut n x, long-cut n y, long-cut (4 * m) boxes, arcs-cut n m R, places-same)
+  build-judged-cut = rw (arc-rows-cut m R, box-rows-cut n m x y boxes, arcs-cut m R n, places-cut n m x y boxes)
 
   check-judged-cut : checkJudged n m (cut m R) (take n x) (take n y) (take (4 * m) boxes) ≡ checkJudged n m R x y boxes
   unfolding checkJudged
-  check-judged-cut = rw (arc-rows-cut n m R, long-cut n x, long-cut n y, long-cut (4 * m) boxes, arcs-cut n m R, places-same, shapes-same)
+  check-judged-cut = rw (arc-rows-cut m R, box-rows-cut n m x y boxes, arcs-cut m R n, places-cut n m x y boxes, boxes-cut n m x y boxes)
 
   update-judged-cut : (arc weight : ℕ) → updateJudged n m (cut m R) (take n x) (take n y) (take (4 * m) boxes) arc weight ≡ updateJudged n m R x y boxes arc weight
   unfolding updateJudged
-  update-judged-cut arc weight = rw (arc-rows-cut n m R, long-cut n x, long-cut n y, long-cut (4 * m) boxes, arcs-cut n m R, places-same, shapes-same)
+  update-judged-cut arc weight = rw (arc-rows-cut m R, box-rows-cut n m x y boxes, arcs-cut m R n, places-cut n m x y boxes, boxes-cut n m x y boxes)
 
 -- ---- The laws
 

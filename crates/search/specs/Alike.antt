@@ -7,7 +7,7 @@ use Rattle.walks.specs.WalkLaws.{sized, ends-at, longer}
 use Rattle.walks.specs.Least.{Reached, Dist, Best}
 use Rattle.walks.specs.LeastLaws.{best-at}
 use Rattle.walks.specs.Through.{InS}
-use Rattle.walks.specs.Route.{Candidate, Chosen, Route, start, into}
+use Rattle.walks.specs.Route.{Candidate, Route, start, into}
 use Rattle.walks.specs.Count.{count-same}
 use Rattle.walks.specs.Settled as counts
 use Rattle.walks.specs.Search.{Found, NoWalk}

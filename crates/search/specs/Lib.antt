@@ -1,3 +1,4 @@
+-- What the searches say, and that it leaves one reply and one row. What a reader must believe: Judge, Paper, Says.
 pub mod Judge
 pub mod JudgeLaws
 pub mod Paper
@@ -5,4 +6,5 @@ pub mod Says
 pub mod SaysLaws
 pub mod Alike
 pub mod Networks
+pub mod Cut
 pub mod Surplus

@@ -1,7 +1,6 @@
 -- What the paper says of a search's answer. Assumes nothing.
-use Prim.Native.Nat.{ℕ}
 use mathlib.Core.Path.{_≡_, sym, ap}
-use mathlib.Core.List.{List, [], _∷_}
+use mathlib.Core.List.{[], _∷_}
 use native.Mathlib.Omega.{arith}
 use Rattle.rules.specs.Paper.{Reply, accepted, refusal, refusal-injective}
 use Rattle.rules.specs.declared.Refusal.{Refusal}

@@ -16,14 +16,14 @@ use Rattle.walks.specs.Rows.{Rows, network}
 use Rattle.walks.specs.Search.{Found, NoWalk}
 use Rattle.search.specs.Judge.{searchJudged, boxedJudged}
 
--- The answer for a network of n nodes: length, arc count and settled count, with the route's arcs, source first, in the
--- row's first places; or 12 with the settled count. Places after the route keep their contents.
+-- The answer for a network of n nodes. Found: the length d, the arc count k and the settled count c, and the route's arcs,
+-- source first, in the row's first places; the places after it keep their contents. Else 12 with the settled count.
 pub data Answers (N : Net) (n s t : ℕ) (before : List ℕ) : Reply → List ℕ → Type 0 where
-  found : {length′ arcs settled : ℕ} {route : List ℕ} → Found N n s t length′ arcs settled route
-      → Answers N n s t before (accepted (length′ ∷ arcs ∷ settled ∷ [])) (route ++ drop (length route) before)
-  none : {settled : ℕ} → NoWalk N n s t settled → Answers N n s t before (refusal (refusals.NoWalk settled)) before
+  found : {d k c : ℕ} {arcs : List ℕ} → Found N n s t d k c arcs
+      → Answers N n s t before (accepted (d ∷ k ∷ c ∷ [])) (arcs ++ drop (length arcs) before)
+  none : {c : ℕ} → NoWalk N n s t c → Answers N n s t before (refusal (refusals.NoWalk c)) before
 
--- What was judged decides: a refusal leaves the row as it was, else the answer for the network is given
+-- The judgement decides: a refusal is the reply, and leaves the row as it was; where it is fine, the answer is given
 pub data Says (judged : Judged) (N : Net) (n s t : ℕ) (before : List ℕ) : Reply → List ℕ → Type 0 where
   refused : {r : Refusal} → judged ≡ Refused r → Says judged N n s t before (refusal r) before
   answered : {reply : Reply} {after : List ℕ} → judged ≡ Fine → Answers N n s t before reply after → Says judged N n s t before reply after

@@ -5,8 +5,6 @@ use mathlib.Core.List.{List}
 use native.Mathlib.Omega.{arith}
 use Rattle.rules.specs.Paper.{Reply}
 use Rattle.rules.specs.declared.Judged.{Judged}
-use Rattle.rules.specs.declared.Judged.the-variants.{Fine, Refused}
-use Rattle.rules.specs.declared.Refusal.{Refusal}
 use Rattle.walks.specs.Walk.{Net}
 use Rattle.walks.specs.Search.{found-unique, no-walk-unique, not-both}
 use Rattle.search.specs.Says.{Answers, found, none, Says, refused, answered}

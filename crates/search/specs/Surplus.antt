@@ -1,89 +1,30 @@
 -- Surplus is neither read nor written: a search is the search over the rows cut to the places that it needs, and the
 -- places of the route row beyond n keep their contents. Assumes nothing.
-use Prim.Native.Nat.{ℕ, zero, suc, _+_, _-_, _*_, _≤_, _<_}
-use mathlib.Core.Path.{_≡_, refl, sym, ap, _∙_}
+use Prim.Native.Nat.{ℕ, _+_, _-_, _*_, _≤_}
+use mathlib.Core.Path.{_≡_, refl, ap, _∙_}
 use mathlib.Core.Bool.{Bool, true}
 use mathlib.Core.Logic.{inl, inr}
 use mathlib.Core.List.{List, _++_}
 use native.Mathlib.Omega.{arith}
-use native.Mathlib.Decide.{decLe}
-use borrow.Author.Tests.{le-leb, lt-leb}
-use lib.IntN.{ℤ, pos}
-use lib.ListN.{length, getD, take, drop, length-take}
-use lib.Seq.{getD-take, take-append-add, drop-append-add, take-add, drop-at, drop-drop, length-take-le}
-use lib.Dec.{leb}
+use lib.IntN.{ℤ}
+use lib.ListN.{length, take, drop}
+use lib.Seq.{take-append-add, drop-append-add, take-add, drop-at, drop-drop, length-take-le}
 use Rattle.rules.specs.Paper.{Reply}
-use Rattle.rules.specs.Judging.{orElse, passes, each}
 use Rattle.rules.specs.declared.Judged.{Judged}
 use Rattle.rules.specs.declared.Judged.the-variants.{Fine}
-use Rattle.rules.specs.declared.Refusal.{Refusal}
-use Rattle.rules.specs.declared.Refusal.the-variants.{RowTooShort, BadArc, BadCoordinate, BadBox}
-use Rattle.geometry.specs.Box.{wellShapedB}
-use Rattle.geometry.specs.Row.{goodPlace, goodBox, boxOf, coordinate}
 use Rattle.walks.specs.Walk.{Net, kept}
-use Rattle.walks.specs.Rows.{Rows, at, network}
+use Rattle.walks.specs.Rows.{Rows, network}
 use Rattle.walks.specs.Search.{Found, found-unique, not-both}
 use Rattle.settling.specs.Choice.{either}
 use Rattle.settling.specs.Run.{searchOf}
 use Rattle.settling.specs.Right.{search-found, search-missed}
-use Rattle.search.specs.Judge.{arcs, arcRowsLong, searchJudged, boxedJudged}
+use Rattle.search.specs.Judge.{searchJudged, boxedJudged}
 use Rattle.search.specs.JudgeLaws.{Lent, search-fine, boxed-fine}
 use Rattle.search.specs.Says.{Answers, found, none, Says, refused, answered, SearchSays, BoxedSays, holding}
 use Rattle.search.specs.SaysLaws.{says-unique}
 use Rattle.search.specs.Alike.{Alike, other-way, found-alike, no-walk-alike}
 use Rattle.search.specs.Networks.{all-arcs, held-arcs}
-
--- the arc rows cut to m places
-abbrev pub cut : ℕ → Rows → Rows
-cut m R = record { tails = take m (R .tails); heads = take m (R .heads); weights = take m (R .weights) }
-
--- ---- What is read of a row that is cut
-
--- it is long enough where the whole row is
-pub long-cut {ℓ} : {A : Type ℓ} (m : ℕ) (row : List A) → leb m (length (take m row)) ≡ leb m (length row)
-long-cut m row = elim (decLe m (length row)) [
-  | yes h ↦ le-leb m _ (omega (arith, length-take m row)) ∙ sym (le-leb m _ h)
-  | no h ↦ lt-leb m _ (omega (arith, length-take m row)) ∙ sym (lt-leb m _ (omega arith))
-]
-
-pub at-cut : (m : ℕ) (row : List ℕ) (i : ℕ) → 1 ≤ i → i ≤ m → at (take m row) i ≡ at row i
-at-cut m row i low high = getD-take m row (i - 1) 0 (omega arith)
-
-pub place-cut : (n : ℕ) (row : List ℤ) (i : ℕ) → 1 ≤ i → i ≤ n → coordinate (take n row) i ≡ coordinate row i
-place-cut n row i low high = getD-take n row (i - 1) (pos 0) (omega arith)
-
-pub box-cut : (m : ℕ) (boxes : List ℤ) (e : ℕ) → 1 ≤ e → e ≤ m → boxOf (take (4 * m) boxes) e ≡ boxOf boxes e
-box-cut m boxes e low high =
-    let i = 4 * (e - 1) in
-    rw (
-      getD-take (4 * m) boxes i (pos 0) (omega arith),
-      getD-take (4 * m) boxes (i + 1) (pos 0) (omega arith),
-      getD-take (4 * m) boxes (i + 2) (pos 0) (omega arith),
-      getD-take (4 * m) boxes (i + 3) (pos 0) (omega arith),
-    )
-
--- judged alike, where the tests agree on 1..n
-pub each-same : (test test′ : ℕ → Bool) (refuse : ℕ → Refusal) (n : ℕ) → ((i : ℕ) → 1 ≤ i → i ≤ n → test i ≡ test′ i) → each test refuse n ≡ each test′ refuse n
-unfolding each
-each-same test test′ refuse zero h = refl
-each-same test test′ refuse (suc n) h = rw (each-same test test′ refuse n (λ i low high. h i low (omega arith)), h (suc n) (omega arith) (omega arith))
-
-module _ (n m : ℕ) (R : Rows) where
-  pub arc-rows-cut : arcRowsLong m (cut m R) ≡ arcRowsLong m R
-  arc-rows-cut = rw (long-cut m (R .tails), long-cut m (R .heads), long-cut m (R .weights))
-
-  pub arcs-cut : arcs n m (cut m R) ≡ arcs n m R
-  arcs-cut = each-same _ _ BadArc m (λ i low high. rw (at-cut m (R .tails) i low high, at-cut m (R .heads) i low high, at-cut m (R .weights) i low high))
-
-  pub network-cut : Alike (network m R) (network m (cut m R))
-  unfolding network
-  network-cut = record {
-    there = λ e a. a;
-    back = λ e a. a;
-    tail = λ e a. sym (at-cut m (R .tails) e (a .0) (a .1));
-    head = λ e a. sym (at-cut m (R .heads) e (a .0) (a .1));
-    weight = λ e a. sym (at-cut m (R .weights) e (a .0) (a .1));
-  }
+use Rattle.search.specs.Cut.{cut, long-cut, place-cut, box-cut, arc-rows-cut, arcs-cut, network-cut, box-rows-cut, places-cut, boxes-cut}
 
 -- ---- The route row
 
@@ -111,7 +52,7 @@ short {n} {m} {R} keep {N} {s} {t} before l x d k c route f = elim (either (sear
 module _ {N F : Net} {n s t : ℕ} {before : List ℕ} where
   answers-cut : Alike N F → n ≤ length before → ((d k c : ℕ) (route : List ℕ) → Found N n s t d k c route → length route ≤ n)
       → {reply : Reply} {after : List ℕ} → Answers N n s t before reply after → Answers F n s t (take n before) reply (take n after) × (drop n after ≡ drop n before)
-  answers-cut x long few (found {length′ = d} {arcs = k} {settled = c} {route = route} f) =
+  answers-cut x long few (found {d = d} {k = k} {c = c} {arcs = route} f) =
       let r = row-cut route before n (few d k c route f) long in
       (rw (r .0) (found (found-alike x f)), r .1)
   answers-cut x long few (none f) = (none (no-walk-alike x f), refl)
@@ -127,31 +68,28 @@ module _ {N F : Net} {n s t : ℕ} {before : List ℕ} where
 module _ (n m : ℕ) (R : Rows) (s t : ℕ) (before : List ℕ) where
   judged-cut : searchJudged n m (cut m R) s t (length (take n before)) ≡ searchJudged n m R s t (length before)
   unfolding searchJudged
-  judged-cut = rw (arc-rows-cut n m R, arcs-cut n m R, long-cut n before)
+  judged-cut = rw (arc-rows-cut m R, arcs-cut m R n, long-cut n before)
 
   pub search-cut : {reply : Reply} {after : List ℕ} → SearchSays n m R s t before reply after
       → SearchSays n m (cut m R) s t (take n before) reply (take n after) × (drop n after ≡ drop n before)
   search-cut says =
       says-cut judged-cut (λ e.
       let l = search-fine n m R s t (length before) e in
-      (network-cut n m R, l .room, short (λ e. true) before l (other-way (all-arcs (network m R))))) says
+      (network-cut m R, l .room, short (λ e. true) before l (other-way (all-arcs (network m R))))) says
 
   module _ (x y boxes : List ℤ) where
     boxed-judged-cut : boxedJudged n m (cut m R) (take n x) (take n y) (take (4 * m) boxes) s t (length (take n before)) ≡ boxedJudged n m R x y boxes s t (length before)
     unfolding boxedJudged
-    boxed-judged-cut =
-        let places = each-same (goodPlace (take n x) (take n y)) (goodPlace x y) BadCoordinate n (λ i low high. rw (place-cut n x i low high, place-cut n y i low high)) in
-        let shapes = each-same (goodBox (take (4 * m) boxes)) (goodBox boxes) BadBox m (λ e low high. ap wellShapedB (box-cut m boxes e low high)) in
-        rw (arc-rows-cut n m R, long-cut n x, long-cut n y, long-cut (4 * m) boxes, long-cut n before, arcs-cut n m R, places, shapes)
+    boxed-judged-cut = rw (arc-rows-cut m R, box-rows-cut n m x y boxes, long-cut n before, arcs-cut m R n, places-cut n m x y boxes, boxes-cut n m x y boxes)
 
     holding-cut : 1 ≤ t → t ≤ n → Alike (holding x y boxes t (network m R)) (holding (take n x) (take n y) (take (4 * m) boxes) t (network m (cut m R)))
     unfolding network
     holding-cut low high = record {
       there = λ e a. (a .0, rw (box-cut m boxes e (a .0 .0) (a .0 .1), place-cut n x t low high, place-cut n y t low high) (a .1));
       back = λ e a. (a .0, rw (box-cut m boxes e (a .0 .0) (a .0 .1), place-cut n x t low high, place-cut n y t low high) at (a .1));
-      tail = λ e a. network-cut n m R .tail e (a .0);
-      head = λ e a. network-cut n m R .head e (a .0);
-      weight = λ e a. network-cut n m R .weight e (a .0);
+      tail = λ e a. network-cut m R .tail e (a .0);
+      head = λ e a. network-cut m R .head e (a .0);
+      weight = λ e a. network-cut m R .weight e (a .0);
     }
 
     pub boxed-cut : {reply : Reply} {after : List ℕ} → BoxedSays n m R x y boxes s t before reply after

@@ -1,5 +1,4 @@
 // The search itself, over rows that were judged.
-ghost use mathlib.Core.Path.{_≡_};
 ghost use Prim.Native.Nat.{_≤_};
 ghost use lib.ListN.{length};
 ghost use Rattle.walks.specs.Walk.{kept};

@@ -19,17 +19,17 @@ fn unless(passed: bool, refusal: Refusal) -> Judged
 }
 
 // Refusal 5 where n or m is beyond its limits.
-pub fn judge_sizes(n: u32, m: u32) -> Judged
+fn judge_sizes(n: u32, m: u32) -> Judged
     ensures { λ r. ⌜ r ≡ sizes n m ⌝ }
 {
     unless(
-        (1 <= n) & (n <= 512) & (m <= 2048),
+        (1 <= n) & (n <= rules::NODES) & (m <= rules::ARCS),
         Refusal::BeyondLimits { line: 0 },
     )
 }
 
 // Whether the arc rows have m places.
-pub fn arc_rows_long(m: u32, tails: &[u32], heads: &[u32], weights: &[u32]) -> bool
+fn arc_rows_long(m: u32, tails: &[u32], heads: &[u32], weights: &[u32]) -> bool
     ensures { λ r. ⌜ r ≡ arcRowsLong m (rows (now (tails .entry)) (now (heads .entry)) (now (weights .entry))) ⌝ }
 {
     let places = m as usize;
@@ -48,11 +48,11 @@ pub fn box_rows_long(n: u32, m: u32, x: &[i32], y: &[i32], boxes: &[i32]) -> boo
 fn good_arc(n: u32, tail: u32, head: u32, weight: u32) -> bool
     ensures { λ r. ⌜ r ≡ goodArc n tail head weight ⌝ }
 {
-    (1 <= tail) & (tail <= n) & (1 <= head) & (head <= n) & (weight <= 1000000)
+    (1 <= tail) & (tail <= n) & (1 <= head) & (head <= n) & (weight <= rules::WEIGHT)
 }
 
 // Refusal 8 of the lowest arc of 1..m that has a bad node or weight.
-pub fn judge_arcs(n: u32, m: u32, tails: &[u32], heads: &[u32], weights: &[u32]) -> Judged
+fn judge_arcs(n: u32, m: u32, tails: &[u32], heads: &[u32], weights: &[u32]) -> Judged
     requires { ⌜ (m ≤ length (now tails)) × (m ≤ length (now heads)) × (m ≤ length (now weights)) ⌝ }
     ensures { λ r. ⌜ r ≡ arcs n m (rows (now (tails .entry)) (now (heads .entry)) (now (weights .entry))) ⌝ }
 {
@@ -95,7 +95,7 @@ pub fn judge_network(
 }
 
 // Refusal 11 where source or target is not a node.
-pub fn judge_ends(n: u32, s: u32, t: u32) -> Judged
+fn judge_ends(n: u32, s: u32, t: u32) -> Judged
     ensures { λ r. ⌜ r ≡ ends n s t ⌝ }
 {
     unless(

@@ -1,6 +1,4 @@
 // Route searches over rows as they are lent, with and without boxes.
-ghost use mathlib.Core.Path.{_≡_};
-ghost use lib.ListN.{length};
 ghost use Rattle.settling.specs.Toward.{rows};
 ghost use Rattle.search.specs.Paper.{paper};
 ghost use Rattle.search.specs.Says.{SearchSays, BoxedSays};
@@ -8,7 +6,7 @@ use rules::Judged;
 use rules::Refusal;
 use settling::Toward;
 
-pub mod find;
+mod find;
 pub mod judge;
 
 // What a search answers: the route's length, its arc count and the settled count, or why it was refused.
@@ -36,6 +34,7 @@ pub fn search(
 {
     let j = judge::judge_search(n, m, tails, heads, weights, s, t, route.len());
     let Judged::Refused(r) = j else {
+        // of no arc is a box asked
         let boxes = [0i32; 1];
         return find::find(
             n as usize,

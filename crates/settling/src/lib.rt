@@ -3,9 +3,9 @@ ghost use mathlib.Core.Path.{_≡_};
 ghost use Prim.Native.Nat.{_≤_};
 ghost use Rattle.settling.specs.Toward.{Room, keeps};
 
-pub mod nearest;
+mod nearest;
 pub mod run;
-pub mod settle;
+mod settle;
 pub mod trace;
 
 // For each of 512 nodes: its length, its arc count and its settled mark. Length 4294967295 marks a node without a label.
@@ -41,7 +41,7 @@ pub enum Toward {
 }
 
 // Whether a search may use arc `e`.
-pub fn passes(toward: Toward, boxes: &[i32], e: usize) -> bool
+fn passes(toward: Toward, boxes: &[i32], e: usize) -> bool
     requires { ⌜ (1 ≤ e) × Room toward e (now boxes) ⌝ }
     ensures { λ r. ⌜ r ≡ keeps toward (now (boxes .entry)) e ⌝ }
 {

@@ -69,6 +69,7 @@ pub fn label_all(
     requires { ⌜ (1 ≤ s) × (s ≤ n) × Sound n m (rows (now tails) (now heads) (now weights)) ⌝ }
     ensures { λ r. ⌜ r ≡ labelsOf (rows (now (tails .entry)) (now (heads .entry)) (now (weights .entry))) (λ e. true) n m s ⌝ }
 {
+    // of no arc is a box asked
     let boxes = [0i32; 1];
     let o = run(s, 0, n, m, tails, heads, weights, Toward::Anywhere, &boxes);
     let labels = o.labels;

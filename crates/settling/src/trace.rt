@@ -21,7 +21,7 @@ fn leads(l: u32, k: u32, w: u32, l2: u32, k2: u32) -> bool
 }
 
 // The lowest-numbered arc by which node `v` has its label.
-pub fn arc_into(
+fn arc_into(
     labels: Labels,
     v: usize,
     m: usize,

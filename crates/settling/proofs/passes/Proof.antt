@@ -1,5 +1,5 @@
 -- `settling::passes` meets its contract: the box test is geometry's, at the place that the search goes toward. Assumes nothing.
-use Prim.Native.Nat.{ℕ, _<_, _^_, _*_, _≤_}
+use Prim.Native.Nat.{ℕ, _*_, _≤_}
 use mathlib.Core.Path.{_≡_}
 use mathlib.Core.Bool.{Bool}
 use mathlib.Core.List.{List}

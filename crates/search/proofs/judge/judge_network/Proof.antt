@@ -1,12 +1,10 @@
 -- `search::judge::judge_network` meets its contract: each refusal is handed on as it came. Assumes nothing.
-use mathlib.Core.Path.{_≡_, sym, ap, _∙_}
-use mathlib.Core.Bool.{Bool, true, _&&_}
+use mathlib.Core.Path.{_≡_, sym, _∙_}
+use mathlib.Core.Bool.{Bool, _&&_}
 use borrow.Author.Needs.{needs}
 use Rattle.rules.specs.Judging.{passes}
 use Rattle.rules.specs.declared.Judged.{Judged}
-use Rattle.rules.specs.declared.Judged.the-variants.{Fine}
 use Rattle.rules.specs.declared.Refusal.the-variants.{RowTooShort}
-use Rattle.walks.specs.Rows.{Rows}
 use Rattle.settling.specs.Choice.{and-true}
 use Rattle.settling.specs.Toward.{rows}
 use Rattle.search.specs.Judge.{arcRowsLong, networkJudged}

@@ -1,5 +1,4 @@
 -- `search::judge::unless` meets its contract. Assumes nothing.
-use mathlib.Core.Path.{_≡_}
 use borrow.Author.Needs.{needs}
 use Rattle.search.proofs.judge.unless.Statement.{statement}
 use Rattle.search.proofs.judge.unless.Tie as tie

@@ -4,7 +4,7 @@ use native.Mathlib.Omega.{arith}
 use borrow.Author.Needs.{needs}
 use mathlib.Core.Path.{_≡_, refl, sym, _∙_}
 use mathlib.Core.Bool.{Bool, true, false}
-use Rattle.walks.specs.Rows.{Rows, Sound, SoundArc}
+use Rattle.walks.specs.Rows.{Rows}
 use Rattle.settling.specs.declared.Labels.{Labels}
 use Rattle.settling.specs.declared.Outcome.{Outcome}
 use Rattle.settling.specs.declared.Pick.{Pick}

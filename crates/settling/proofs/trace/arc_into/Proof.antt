@@ -13,7 +13,7 @@ use Rattle.settling.proofs.trace.arc_into.Tie as tie
 
 abbrev Inv-loop : tie.InvT-loop
 Inv-loop v m tails heads weights toward boxes labels l k j₀ j =
-    (j ≤ m) × Rest (arcFits (rows tails heads weights) (keeps toward boxes) labels v) m (intoOf (rows tails heads weights) (keeps toward boxes) labels v m) j
+    Rest (arcFits (rows tails heads weights) (keeps toward boxes) labels v) m (intoOf (rows tails heads weights) (keeps toward boxes) labels v m) j × (j ≤ m)
 
 abbrev μ-loop : tie.MeasureT-loop
 μ-loop v m tails heads weights toward boxes labels l k j₀ j = m - j
@@ -44,7 +44,7 @@ element-copy-out-k : tie.Need-element-copy-out-k Inv-loop μ-loop
 element-copy-out-k c = omega arith
 
 loop-holds : tie.Need-loop-holds Inv-loop μ-loop
-loop-holds c = (omega arith, into-whole _ _ _ _ _)
+loop-holds c = (into-whole _ _ _ _ _, omega arith)
 
 mul-if1 : tie.Need-mul-if1 Inv-loop μ-loop
 mul-if1 c = omega arith
@@ -105,7 +105,7 @@ returns c =
     let i = c .before .before .before .before .before .before .before .before .before .before .before .loop in
     let R = rows (a .tails .now) (a .heads .now) (a .weights .now) in
     let K = keeps (a .toward) (a .boxes .now) in
-    hit _ (a .m) (intoOf R K (a .t1) (a .v) (a .m)) (i .j) (i .inv .1) (omega arith)
+    hit _ (a .m) (intoOf R K (a .t1) (a .v) (a .m)) (i .j) (i .inv .0) (omega arith)
     (arc-fits R K (a .t1) (a .v) (i .j)
     (c .before .before .before .before .before .before .before .before .if1 .taken)
     (sym (c .before .before .before .before .before .before .before .passes .ensures) ∙ c .before .before .before .before .before .before .if2 .taken)
@@ -123,18 +123,18 @@ loop-again c =
     let i = c .before .before .before .loop in
     let R = rows (a .tails .now) (a .heads .now) (a .weights .now) in
     let K = keeps (a .toward) (a .boxes .now) in (
-      omega arith,
-      miss _ (a .m) (intoOf R K (a .t1) (a .v) (a .m)) (i .j) (i .inv .1)
+      miss _ (a .m) (intoOf R K (a .t1) (a .v) (a .m)) (i .j) (i .inv .0)
           (⊎-elim
           (λ w. arc-fits R K (a .t1) (a .v) (i .j) (w .0 .taken) (sym (w .1 .ensures) ∙ w .2 .taken) (sym (w .7 .ensures) ∙ w .8 .left))
           (⊎-elim
           (λ w. arc-shut R K (a .t1) (a .v) (i .j) (w .0 .taken) (sym (w .1 .ensures) ∙ w .2 .left))
           (λ w. arc-other R K (a .t1) (a .v) (i .j) (w .left)))
           (c .if1 .came)),
+      omega arith,
     )
 
 returns-2 : tie.Need-returns-2 Inv-loop μ-loop
-returns-2 c = let i = c .before .loop in over _ _ _ (i .j) (i .inv .1) (i .inv .0) (c .loop-test .left)
+returns-2 c = let i = c .before .loop in over _ _ _ (i .j) (i .inv .0) (i .inv .1) (c .loop-test .left)
 
 pub arc-into-spec : {M : Type 1} → statement M
 arc-into-spec =

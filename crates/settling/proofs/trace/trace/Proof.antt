@@ -4,7 +4,6 @@ use native.Mathlib.Omega.{arith}
 use borrow.Author.Needs.{needs}
 use mathlib.Core.Path.{_≡_, refl, sym, _∙_}
 use lib.ListN.{length, length-set}
-use Rattle.walks.specs.Rows.{SoundArc, at}
 use Rattle.settling.specs.Trace.{traceOf}
 use Rattle.settling.specs.TraceLaws.{into-in, trace-over, trace-stuck, trace-on}
 use Rattle.settling.specs.Toward.{rows, keeps}
