@@ -9,13 +9,11 @@ use lib.IntN.{ℤ, pos}
 use lib.ListN.{length, take, drop, length-take, length-drop}
 use lib.Seq.{getD-drop, ext-getD, take-set-lt, drop-set-lt}
 use Rattle.rules.specs.Paper.{Reply}
-use Rattle.rules.specs.Judging.{each}
-use Rattle.rules.specs.declared.Refusal.the-variants.{BadCoordinate, BadBox}
 use Rattle.walks.specs.Rows.{Rows, Sound, network}
 use Rattle.walks.specs.Through.{InS}
 use Rattle.walks.specs.Checking.{Misses}
-use Rattle.geometry.specs.Box.{Box, wellShapedB}
-use Rattle.geometry.specs.Row.{number, boxOf, goodPlace, goodBox}
+use Rattle.geometry.specs.Box.{Box}
+use Rattle.geometry.specs.Row.{number, boxOf}
 use Rattle.geometry.proofs.SmallestLaws.{smallest-same}
 use Rattle.search.specs.Alike.{other-way, inS-alike}
 use Rattle.search.specs.Cut.{cut, place-cut, box-cut, arc-rows-cut, arcs-cut, network-cut, box-rows-cut, places-cut, boxes-cut}
