@@ -1,22 +1,17 @@
 -- What is computed is what the functions say. Assumes nothing.
-use Prim.Native.Nat.{ℕ, zero, suc, _+_, _*_, _≤_, _<_}
-use mathlib.Core.Path.{_≡_, refl, sym, ap, _∙_, subst}
-use mathlib.Core.Logic.{_⊎_, inl, inr, ⊎-elim, _↔_}
-use mathlib.Core.Bool.{Bool, true, false, false≢true}
-use mathlib.Core.List.{List, [], _∷_}
+use Prim.Native.Nat.{ℕ, zero, suc, _+_, _*_, _≤_}
+use mathlib.Core.Path.{_≡_, refl, subst}
+use mathlib.Core.Bool.{Bool, true}
+use mathlib.Core.List.{List, []}
 use native.Mathlib.Omega.{arith}
 use native.Mathlib.Numerals.{add-one}
-use native.Mathlib.Decide.{ℕ-discrete}
-use borrow.Author.Tests.{eqb-true, eqb-false}
 use lib.IntN.{ℤ}
 use lib.ListN.{length}
-use lib.Dec.{eqb}
 use Rattle.rules.specs.Paper.{accepted}
 use Rattle.rules.specs.declared.Judged.{Judged}
 use Rattle.rules.specs.declared.Judged.the-variants.{Fine, Refused}
 use Rattle.walks.specs.Walk.{Net, kept}
-use Rattle.walks.specs.Rows.{Rows, Sound, network}
-use Rattle.walks.specs.Through.{InS}
+use Rattle.walks.specs.Rows.{Rows, network}
 use Rattle.geometry.specs.Box.{Box}
 use Rattle.geometry.specs.Row.{boxOf}
 use Rattle.settling.specs.Choice.{cond-by}
@@ -29,15 +24,14 @@ use Rattle.search.proofs.Answering.{found-answers, none-answers}
 use Rattle.drawing.specs.declared.compare.Missed.{Missed}
 use Rattle.drawing.specs.declared.compare.Missed.the-variants.{Nothing, At}
 use Rattle.drawing.specs.Drawn.{Drawn}
-use Rattle.drawing.specs.Leads.{leadsTo}
 use Rattle.drawing.specs.Missed.{missesB, FirstOf}
 use Rattle.drawing.proofs.DrawnLaws.{drawn-none, drawn-next}
-use Rattle.boxwork.specs.TightLaws.{inS-range}
 use Rattle.boxwork.specs.Judge.{buildJudged, checkJudged, updateJudged}
 use Rattle.boxwork.specs.JudgeLaws.{build-fine, check-fine, update-fine, sound-reweighted}
 use Rattle.boxwork.specs.Says.{BuildSays, CheckSays, UpdateSays, reweighted}
-use Rattle.boxwork.proofs.Meaning.{leads-inS, inS-leads, tight-made, updated-made, missed-first, missed-none}
-use Rattle.worked.specs.Computed.{Told, orTold, answerOf, searchTold, boxedTold, heldBy, drawnTo, tightOf, mendedOf, buildTold, updateTold, lowestNode, orArc, lowestArc, missedReply, checkTold, membersFrom, membersOf}
+use Rattle.boxwork.proofs.Meaning.{tight-made, updated-made, missed-first, missed-none}
+use Rattle.worked.specs.LowestLaws.{lowest-arc}
+use Rattle.worked.specs.Computed.{Told, orTold, answerOf, searchTold, boxedTold, heldBy, drawnTo, tightOf, mendedOf, buildTold, updateTold, lowestArc, missedReply, checkTold}
 
 -- ---- Searches
 
@@ -109,70 +103,6 @@ module _ (n m : ℕ) (R : Rows) (x y boxes : List ℤ) where
 
 -- ---- Check
 
-module _ (test : ℕ → ℕ → Bool) (n : ℕ) where
-  -- what lowestNode finds among 1..k
-  record Node (e k v : ℕ) : Type 0 where
-    most : v ≤ k
-    none : v ≡ 0 → (j : ℕ) → 1 ≤ j → j ≤ k → test j e ≡ false
-    passes : 1 ≤ v → test v e ≡ true
-    first : (j : ℕ) → 1 ≤ j → j < v → test j e ≡ false
-
-  lowest-node : (e k : ℕ) → Node e k (lowestNode test n e k)
-  unfolding lowestNode
-  lowest-node e zero = record { most = omega arith; none = λ z j low high. absurd (omega arith); passes = λ h. absurd (omega arith); first = λ j low high. absurd (omega arith) }
-  lowest-node e (suc k) =
-      let r = lowest-node e k in
-      let v = lowestNode test n e k in
-      cond-by (Node e (suc k)) (eqb v 0) _ _
-      (λ z. let v0 = eqb-true v 0 z in cond-by (Node e (suc k)) (test (suc k) e) _ _
-      (λ p. record {
-        most = omega arith;
-        none = λ q. absurd (omega arith);
-        passes = λ h. p;
-        first = λ j low high. r .none v0 j low (omega arith);
-      })
-      (λ p. record {
-        most = omega arith;
-        none = λ q j low high. elim (ℕ-discrete j (suc k)) [ yes same ↦ ap (λ (i : ℕ). test i e) same ∙ p | no other ↦ r .none v0 j low (omega arith) ];
-        passes = λ h. absurd (omega arith);
-        first = λ j low high. absurd (omega arith);
-      }))
-      (λ z. record {
-        most = omega (arith, r .most);
-        none = λ q. absurd (eqb-false v 0 z q);
-        passes = r .passes;
-        first = r .first;
-      })
-
-  or-arc : (k : ℕ) (found : Missed) (v : ℕ) → FirstOf test n k found → Node (suc k) n v → FirstOf test n (suc k) (orArc test n found (suc k) v)
-  unfolding orArc
-  or-arc k (At e t) v h r = record {
-    arc-low = h .arc-low;
-    arc-high = omega (arith, h .arc-high);
-    node-low = h .node-low;
-    node-high = h .node-high;
-    passes = h .passes;
-    arc-first = h .arc-first;
-    node-first = h .node-first;
-  }
-  or-arc k Nothing v h r =
-      cond-by (FirstOf test n (suc k)) (eqb v 0) _ _
-      (λ z. λ t e a b c d. elim (ℕ-discrete e (suc k)) [ yes same ↦ ap (test t) same ∙ r .none (eqb-true v 0 z) t a b | no other ↦ h t e a b c (omega arith) ])
-      (λ z. record {
-        arc-low = omega arith;
-        arc-high = omega arith;
-        node-low = let q = eqb-false v 0 z in omega arith;
-        node-high = r .most;
-        passes = r .passes (let q = eqb-false v 0 z in omega arith);
-        arc-first = λ j i a b c d. h j i a b c (omega arith);
-        node-first = r .first;
-      })
-
-  lowest-arc : (k : ℕ) → FirstOf test n k (lowestArc test n k)
-  unfolding lowestArc
-  lowest-arc zero = λ t e a b c d. absurd (omega arith)
-  lowest-arc (suc k) = or-arc k (lowestArc test n k) _ (lowest-arc k) (lowest-node (suc k) n)
-
 module _ (n m : ℕ) (R : Rows) (x y boxes : List ℤ) where
   check-missed : checkJudged n m R x y boxes ≡ Fine → (found : Missed) → FirstOf (missesB R n m boxes x y) n m found → CheckSays n m R x y boxes (missedReply found)
   check-missed e Nothing h = CheckSays.consistent e (missed-none (build-fine n m R x y boxes (check-fine n m R x y boxes e .0) .sound) x y boxes h)
@@ -187,34 +117,3 @@ module _ (n m : ℕ) (R : Rows) (x y boxes : List ℤ) where
   pub check-told : CheckSays n m R x y boxes (checkTold n m R x y boxes .reply)
   unfolding checkTold
   check-told = check-by (checkJudged n m R x y boxes) refl
-
--- ---- S(e)
-
--- v is one of a list's numbers
-abbrev pub Among : ℕ → List ℕ → Type 0
-Among v [] = ⊥
-Among v (u ∷ us) = (v ≡ u) ⊎ Among v us
-
-module _ (leads : ℕ → Bool) where
-  members-in : (fuel t v : ℕ) → Among v (membersFrom leads fuel t) → (t ≤ v) × (v < t + fuel) × (leads v ≡ true)
-  unfolding membersFrom
-  members-in zero t v = λ h. absurd h
-  members-in (suc fuel) t v =
-      cond-by (λ (us : List ℕ). Among v us → (t ≤ v) × (v < t + suc fuel) × (leads v ≡ true)) (leads t) _ _
-      (λ p. ⊎-elim (λ same. (omega arith, omega arith, ap leads same ∙ p)) (λ h. let r = members-in fuel (t + 1) v h in (omega (arith, r .0), omega (arith, r .1), r .2)))
-      (λ p h. let r = members-in fuel (t + 1) v h in (omega (arith, r .0), omega (arith, r .1), r .2))
-
-  in-members : (fuel t v : ℕ) → t ≤ v → v < t + fuel → leads v ≡ true → Among v (membersFrom leads fuel t)
-  unfolding membersFrom
-  in-members zero t v low high h = absurd (omega arith)
-  in-members (suc fuel) t v low high h =
-      cond-by (Among v) (leads t) _ _
-      (λ p. elim (ℕ-discrete v t) [ yes same ↦ inl same | no other ↦ inr (in-members fuel (t + 1) v (omega arith) (omega arith) h) ])
-      (λ p. elim (ℕ-discrete v t) [ yes same ↦ absurd (false≢true (sym p ∙ (ap leads (sym same) ∙ h))) | no other ↦ in-members fuel (t + 1) v (omega arith) (omega arith) h ])
-
--- S(e) has these nodes, and no other
-pub members-are : {n m : ℕ} {R : Rows} → Sound n m R → (e : ℕ) → 1 ≤ e → e ≤ m → (t : ℕ) → InS (network m R) e t ↔ Among t (membersOf n m R e)
-members-are {n} {m} {R} sound e low high t = (
-  (λ i. let r = inS-range sound i in in-members (λ v. leadsTo R n m v e) n 1 t (r .2) (omega (arith, r .3)) (inS-leads sound t e (r .2) (r .3) low high i)),
-  (λ h. let r = members-in (λ v. leadsTo R n m v e) n 1 t h in leads-inS sound t e (r .0) (omega (arith, r .1)) low high (r .2)),
-)

@@ -1,8 +1,11 @@
 -- The plans of 01: the hall, and its other small networks. Assumes nothing.
-use Prim.Native.Nat.{ℕ}
+use Prim.Native.Nat.{ℕ, zero, suc}
 use mathlib.Core.List.{List, [], _∷_}
 use lib.IntN.{ℤ, pos, negsuc}
+use lib.ListN.{set, replicate}
+use Rattle.rules.specs.Limits.{leastCoordinate, mostCoordinate}
 use Rattle.walks.specs.Rows.{Rows}
+use Rattle.boxwork.specs.Says.{reweighted}
 
 pub record Plan : Type 0 where
   pub nodes : ℕ
@@ -23,13 +26,7 @@ hall = record {
 
 -- the hall with arc 5 reweighted to 6
 unfoldable pub reweightedHall : Plan
-reweightedHall = record {
-  nodes = 4;
-  arcs = 6;
-  rows = record { tails = 1 ∷ 2 ∷ 1 ∷ 3 ∷ 1 ∷ 4 ∷ []; heads = 2 ∷ 3 ∷ 3 ∷ 4 ∷ 4 ∷ 1 ∷ []; weights = 3 ∷ 2 ∷ 5 ∷ 1 ∷ 6 ∷ 4 ∷ [] };
-  x = pos 0 ∷ pos 10 ∷ pos 10 ∷ negsuc 4 ∷ [];
-  y = pos 0 ∷ pos 0 ∷ pos 5 ∷ pos 20 ∷ [];
-}
+reweightedHall = record { nodes = hall .nodes; arcs = hall .arcs; rows = reweighted (hall .rows) 5 6; x = hall .x; y = hall .y }
 
 -- two nodes, only arc 2 to 1
 unfoldable pub oneWay : Plan
@@ -65,61 +62,44 @@ west = record {
   y = negsuc 9 ∷ negsuc 4 ∷ [];
 }
 
--- ---- Boxes: left, right, low, high
+-- ---- Rows of boxes
+
+-- a box, and the rest of the row
+abbrev box : ℤ → ℤ → ℤ → ℤ → List ℤ → List ℤ
+box left right low high more = left ∷ right ∷ low ∷ high ∷ more
 
 -- the hall's tight boxes, as 01 prints them
 unfoldable pub hallBoxes : List ℤ
 hallBoxes =
-    negsuc 4 ∷ pos 10 ∷ pos 0 ∷ pos 20
-    ∷ negsuc 4 ∷ pos 10 ∷ pos 0 ∷ pos 20
-    ∷ negsuc 4 ∷ pos 10 ∷ pos 5 ∷ pos 20
-    ∷ negsuc 4 ∷ pos 10 ∷ pos 0 ∷ pos 20
-    ∷ negsuc 4 ∷ negsuc 4 ∷ pos 20 ∷ pos 20
-    ∷ pos 0 ∷ pos 10 ∷ pos 0 ∷ pos 5
-    ∷ []
+    box (negsuc 4) (pos 10) (pos 0) (pos 20)
+    (box (negsuc 4) (pos 10) (pos 0) (pos 20)
+    (box (negsuc 4) (pos 10) (pos 5) (pos 20)
+    (box (negsuc 4) (pos 10) (pos 0) (pos 20)
+    (box (negsuc 4) (negsuc 4) (pos 20) (pos 20)
+    (box (pos 0) (pos 10) (pos 0) (pos 5) [])))))
 
 -- arc 3's low raised to 6
 unfoldable pub raisedBoxes : List ℤ
-raisedBoxes =
-    negsuc 4 ∷ pos 10 ∷ pos 0 ∷ pos 20
-    ∷ negsuc 4 ∷ pos 10 ∷ pos 0 ∷ pos 20
-    ∷ negsuc 4 ∷ pos 10 ∷ pos 6 ∷ pos 20
-    ∷ negsuc 4 ∷ pos 10 ∷ pos 0 ∷ pos 20
-    ∷ negsuc 4 ∷ negsuc 4 ∷ pos 20 ∷ pos 20
-    ∷ pos 0 ∷ pos 10 ∷ pos 0 ∷ pos 5
-    ∷ []
+raisedBoxes = set hallBoxes 10 (pos 6)
 
--- every box at the full limits
-unfoldable pub fullBoxes : List ℤ
-fullBoxes =
-    negsuc 999_999 ∷ pos 1_000_000 ∷ negsuc 999_999 ∷ pos 1_000_000
-    ∷ negsuc 999_999 ∷ pos 1_000_000 ∷ negsuc 999_999 ∷ pos 1_000_000
-    ∷ negsuc 999_999 ∷ pos 1_000_000 ∷ negsuc 999_999 ∷ pos 1_000_000
-    ∷ negsuc 999_999 ∷ pos 1_000_000 ∷ negsuc 999_999 ∷ pos 1_000_000
-    ∷ negsuc 999_999 ∷ pos 1_000_000 ∷ negsuc 999_999 ∷ pos 1_000_000
-    ∷ negsuc 999_999 ∷ pos 1_000_000 ∷ negsuc 999_999 ∷ pos 1_000_000
-    ∷ []
-
--- a row for six boxes, and one for a route of four nodes
-unfoldable pub blank : List ℤ
-blank =
-    pos 7 ∷ pos 7 ∷ pos 7 ∷ pos 7
-    ∷ pos 7 ∷ pos 7 ∷ pos 7 ∷ pos 7
-    ∷ pos 7 ∷ pos 7 ∷ pos 7 ∷ pos 7
-    ∷ pos 7 ∷ pos 7 ∷ pos 7 ∷ pos 7
-    ∷ pos 7 ∷ pos 7 ∷ pos 7 ∷ pos 7
-    ∷ pos 7 ∷ pos 7 ∷ pos 7 ∷ pos 7
-    ∷ []
-
-unfoldable pub route : List ℕ
-route = 0 ∷ 0 ∷ 0 ∷ 0 ∷ []
+-- so many boxes at the full limits
+unfoldable pub fullBoxes : ℕ → List ℤ
+fullBoxes zero = []
+fullBoxes (suc k) = box leastCoordinate mostCoordinate leastCoordinate mostCoordinate (fullBoxes k)
 
 -- boxes from one tree per node, for `behind`: the tree from 1 goes to 3 and 4 through 2, and the tree from 2 through 1. Each holds its head.
 unfoldable pub treeBoxes : List ℤ
 treeBoxes =
-    pos 0 ∷ pos 30 ∷ pos 0 ∷ pos 5
-    ∷ pos 0 ∷ pos 30 ∷ pos 0 ∷ pos 5
-    ∷ pos 0 ∷ pos 0 ∷ pos 0 ∷ pos 0
-    ∷ pos 0 ∷ pos 0 ∷ pos 0 ∷ pos 0
-    ∷ pos 30 ∷ pos 30 ∷ pos 5 ∷ pos 5
-    ∷ []
+    box (pos 0) (pos 30) (pos 0) (pos 5)
+    (box (pos 0) (pos 30) (pos 0) (pos 5)
+    (box (pos 0) (pos 0) (pos 0) (pos 0)
+    (box (pos 0) (pos 0) (pos 0) (pos 0)
+    (box (pos 30) (pos 30) (pos 5) (pos 5) []))))
+
+-- ---- Rows as they are lent: for six boxes, and for a route of four nodes
+
+abbrev pub blank : List ℤ
+blank = replicate 24 (pos 7)
+
+abbrev pub route : List ℕ
+route = 0 ∷ 0 ∷ 0 ∷ 0 ∷ []

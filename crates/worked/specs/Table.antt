@@ -32,7 +32,8 @@ use Rattle.boxwork.specs.Judge.{buildJudged, checkJudged, updateJudged}
 use Rattle.boxwork.specs.Says.{BuildSays, CheckSays, UpdateSays}
 use Rattle.worked.specs.Plans.{Plan, hall, reweightedHall, oneWay, zeros, behind, west, hallBoxes, raisedBoxes, fullBoxes, treeBoxes, blank, route}
 use Rattle.worked.specs.Computed.{Told, orTold, answerOf, searchTold, boxedTold, drawnTo, buildTold, updateTold, lowestNode, orArc, lowestArc, checkTold, membersFrom, membersOf}
-use Rattle.worked.specs.ComputedLaws.{Among, members-are, search-told, boxed-told, build-told, check-told, update-told}
+use Rattle.worked.specs.ComputedLaws.{search-told, boxed-told, build-told, check-told, update-told}
+use Rattle.worked.specs.MembersLaws.{Among, members-are}
 use Rattle.worked.specs.Tests.{sameNumbers, same-numbers, sameTold, same-told, isFine, is-fine, walks, walks-by}
 
 -- A call of one of the functions; searches are lent `route`
@@ -110,7 +111,7 @@ table =
     ∷ call (boxed hall hallBoxes 1 1) (found 0 0 1 route)
     -- With arc 3's low raised to 6, check gives 13, arc 3, node 3. With every box at the full limits it accepts.
     ∷ call (check hall raisedBoxes) (misses 3 3)
-    ∷ call (check hall fullBoxes) yes
+    ∷ call (check hall (fullBoxes 6)) yes
     -- Arc 5 reweighted to 6: 1 to 4 goes by arc 5 alone.
     ∷ call (update hall hallBoxes 5 6) (writes (3 ∷ 2 ∷ 5 ∷ 1 ∷ 6 ∷ 4 ∷ []) hallBoxes)
     ∷ call (search reweightedHall 1 4) (found 6 1 4 (5 ∷ 0 ∷ 0 ∷ 0 ∷ []))
@@ -127,7 +128,7 @@ table =
     -- Error 3: arc 5 is a walk to its head, which is not in S(5), as said above.
     ∷ walk hall 1 4 9 (5 ∷ [])
     -- Error 4, ties by order of discovery: the route is the same by other boxes that check accepts.
-    ∷ call (boxed hall fullBoxes 1 4) (found 6 2 4 (3 ∷ 4 ∷ 0 ∷ 0 ∷ []))
+    ∷ call (boxed hall (fullBoxes 6) 1 4) (found 6 2 4 (3 ∷ 4 ∷ 0 ∷ 0 ∷ []))
     ∷ []
 
 -- ---- One computed test, and one law
@@ -179,7 +180,7 @@ each-right (c ∷ cs) h = let p = and-true (passes c) (allPass cs) h in line (pa
 -- THE THEOREM: every line of the table is right
 pub table-right : Each Right table
 unfolding
-    table allPass passes hall reweightedHall oneWay zeros behind west hallBoxes raisedBoxes fullBoxes treeBoxes blank route
+    table allPass passes hall reweightedHall oneWay zeros behind west hallBoxes raisedBoxes fullBoxes treeBoxes
     orTold answerOf searchTold boxedTold drawnTo buildTold updateTold lowestNode orArc lowestArc checkTold membersFrom
     networkJudged searchJudged boxedJudged buildJudged checkJudged updateJudged each smaller larger
     before startOf labelled offered marked arcStep relaxed settleOf better leaderOf nearestOf afterPick runOf
