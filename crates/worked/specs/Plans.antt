@@ -62,6 +62,20 @@ west = record {
   y = negsuc 9 ∷ negsuc 4 ∷ [];
 }
 
+-- arcs 1-2, 2-3 and 1-3, each of weight 1
+unfoldable pub triangle : Plan
+triangle = record {
+  nodes = 3;
+  arcs = 3;
+  rows = record { tails = 1 ∷ 2 ∷ 1 ∷ []; heads = 2 ∷ 3 ∷ 3 ∷ []; weights = 1 ∷ 1 ∷ 1 ∷ [] };
+  x = pos 0 ∷ pos 10 ∷ pos 10 ∷ [];
+  y = pos 0 ∷ pos 0 ∷ pos 10 ∷ [];
+}
+
+-- its arc 3 reweighted to 5: now 1 to 3 goes through 2
+unfoldable pub detour : Plan
+detour = record { nodes = triangle .nodes; arcs = triangle .arcs; rows = reweighted (triangle .rows) 3 5; x = triangle .x; y = triangle .y }
+
 -- ---- Rows of boxes
 
 -- a box, and the rest of the row
@@ -95,6 +109,13 @@ treeBoxes =
     (box (pos 0) (pos 0) (pos 0) (pos 0)
     (box (pos 0) (pos 0) (pos 0) (pos 0)
     (box (pos 30) (pos 30) (pos 5) (pos 5) []))))
+
+-- the triangle's tight boxes, and those that an update of arc 3 to 5 leaves
+unfoldable pub triangleBoxes : List ℤ
+triangleBoxes = box (pos 10) (pos 10) (pos 0) (pos 0) (box (pos 10) (pos 10) (pos 10) (pos 10) (box (pos 10) (pos 10) (pos 10) (pos 10) []))
+
+unfoldable pub mendedBoxes : List ℤ
+mendedBoxes = box (pos 10) (pos 10) (pos 0) (pos 10) (box (pos 10) (pos 10) (pos 10) (pos 10) (box (pos 10) (pos 10) (pos 10) (pos 10) []))
 
 -- ---- Rows as they are lent: for six boxes, and for a route of four nodes
 

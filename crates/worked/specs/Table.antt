@@ -8,6 +8,7 @@ use mathlib.Core.List.{List, [], _∷_}
 use borrow.Author.Tests.{leb-true}
 use lib.Dec.{leb}
 use lib.IntN.{ℤ, pos, negsuc}
+use lib.ListN.{replicate}
 use Rattle.rules.specs.Paper.{accepted, refusal}
 use Rattle.rules.specs.Judging.{each}
 use Rattle.rules.specs.declared.Refusal.the-variants.{NoWalk, BoxMisses}
@@ -30,7 +31,7 @@ use Rattle.drawing.specs.Grown.{grownIf, grownBy}
 use Rattle.drawing.specs.Missed.{missesB}
 use Rattle.boxwork.specs.Judge.{buildJudged, checkJudged, updateJudged}
 use Rattle.boxwork.specs.Says.{BuildSays, CheckSays, UpdateSays}
-use Rattle.worked.specs.Plans.{Plan, hall, reweightedHall, oneWay, zeros, behind, west, hallBoxes, raisedBoxes, fullBoxes, treeBoxes, blank, route}
+use Rattle.worked.specs.Plans.{Plan, hall, reweightedHall, oneWay, zeros, behind, west, triangle, detour, triangleBoxes, mendedBoxes, hallBoxes, raisedBoxes, fullBoxes, treeBoxes, blank, route}
 use Rattle.worked.specs.Computed.{Told, orTold, answerOf, searchTold, boxedTold, drawnTo, buildTold, updateTold, lowestNode, orArc, lowestArc, checkTold, membersFrom, membersOf}
 use Rattle.worked.specs.ComputedLaws.{search-told, boxed-told, build-told, check-told, update-told}
 use Rattle.worked.specs.MembersLaws.{Among, members-are}
@@ -119,6 +120,11 @@ table =
     ∷ call (search oneWay 1 2) (noWalk 1 route)
     -- Arcs 1-2 and 2-1 of weight 0, 1-3 and 2-3 of weight 5: from 1 to 3 is length 5 by arc 3.
     ∷ call (search zeros 1 3) (found 5 1 3 (3 ∷ 0 ∷ 0 ∷ 0 ∷ []))
+    -- An update mends the boxes of other arcs: where arc 3 grows heavier, arc 1 comes to lead to node 3.
+    ∷ call (build triangle (replicate 12 (pos 7))) (writes [] triangleBoxes)
+    ∷ call (check detour triangleBoxes) (misses 1 3)
+    ∷ call (update triangle triangleBoxes 3 5) (writes (1 ∷ 1 ∷ 5 ∷ []) mendedBoxes)
+    ∷ call (check detour mendedBoxes) yes
     -- Learners' error 1, one tree per node: those boxes lose both ways to 4, and check names arc 3 and node 4.
     ∷ call (search behind 1 4) (found 6 2 4 (3 ∷ 5 ∷ 0 ∷ 0 ∷ []))
     ∷ call (boxed behind treeBoxes 1 4) (noWalk 2 route)
@@ -180,7 +186,7 @@ each-right (c ∷ cs) h = let p = and-true (passes c) (allPass cs) h in line (pa
 -- THE THEOREM: every line of the table is right
 pub table-right : Each Right table
 unfolding
-    table allPass passes hall reweightedHall oneWay zeros behind west hallBoxes raisedBoxes fullBoxes treeBoxes
+    table allPass passes hall reweightedHall oneWay zeros behind west hallBoxes raisedBoxes fullBoxes treeBoxes triangle detour triangleBoxes mendedBoxes
     orTold answerOf searchTold boxedTold drawnTo buildTold updateTold lowestNode orArc lowestArc checkTold membersFrom
     networkJudged searchJudged boxedJudged buildJudged checkJudged updateJudged each smaller larger
     before startOf labelled offered marked arcStep relaxed settleOf better leaderOf nearestOf afterPick runOf

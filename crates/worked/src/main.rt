@@ -7,6 +7,7 @@ fn main() {
     hall::hall();
     others::one_way();
     others::zeros();
+    others::triangle();
     others::behind();
     others::west();
 }

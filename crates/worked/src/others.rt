@@ -25,6 +25,43 @@ pub fn zeros() {
     );
 }
 
+// Arcs 1-2, 2-3 and 1-3 of weight 1, and arc 3 reweighted to 5: arc 1's box is mended too.
+fn mended(
+    tails: &[u32],
+    heads: &[u32],
+    weights: &mut [u32],
+    x: &[i32],
+    y: &[i32],
+    boxes: &mut [i32],
+) {
+    told(boxwork::build(3, 3, tails, heads, weights, x, y, boxes));
+    show_box(boxes, 0);
+    told(boxwork::update(3, 3, tails, heads, weights, x, y, boxes, 3, 5));
+    show_box(boxes, 0);
+    told(boxwork::check(3, 3, tails, heads, weights, x, y, boxes));
+}
+
+pub fn triangle() {
+    let tails = [1u32, 2, 1];
+    let heads = [2u32, 3, 3];
+    let mut weights = [1u32; 3];
+    let x = [0i32, 10, 10];
+    let y = [0i32, 0, 10];
+    let mut boxes = [7i32; 12];
+    print::text(b"triangle\n");
+    told(boxwork::check(
+        3,
+        3,
+        &tails,
+        &heads,
+        &[1u32, 1, 5],
+        &x,
+        &y,
+        &[10i32, 10, 0, 0, 10, 10, 10, 10, 10, 10, 10, 10],
+    ));
+    mended(&tails, &heads, &mut weights, &x, &y, &mut boxes);
+}
+
 // Error 1: boxes from one tree per node lose both ways to 4.
 fn trees(tails: &[u32], heads: &[u32], weights: &[u32], x: &[i32], y: &[i32], boxes: &[i32]) {
     plain(4, 5, tails, heads, weights, 1, 4);
