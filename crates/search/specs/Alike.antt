@@ -4,8 +4,9 @@ use mathlib.Core.Path.{_≡_, refl, sym, ap}
 use mathlib.Core.List.{List}
 use Rattle.walks.specs.Walk.{Net, Walk, empty, then}
 use Rattle.walks.specs.WalkLaws.{sized, ends-at, longer}
-use Rattle.walks.specs.Least.{Reached, Best}
+use Rattle.walks.specs.Least.{Reached, Dist, Best}
 use Rattle.walks.specs.LeastLaws.{best-at}
+use Rattle.walks.specs.Through.{InS}
 use Rattle.walks.specs.Route.{Candidate, Route, start, into}
 use Rattle.walks.specs.Count.{count-same}
 use Rattle.walks.specs.Settled as counts
@@ -74,3 +75,18 @@ module _ {N F : Net} (x : Alike N F) {n s t : ℕ} where
 
   pub no-walk-alike : {c : ℕ} → NoWalk N n s t c → NoWalk F n s t c
   no-walk-alike f = record { none = λ r. f .none (reached (other-way x) r); settled = settled (f .settled) }
+
+-- S(e) is the same in both
+module _ {N F : Net} (x : Alike N F) where
+  dist : {u t d : ℕ} → Dist N u t d → Dist F u t d
+  dist p = record { count = p .count; walk = walk x (p .walk); least = λ l j w. p .least l j (walk (other-way x) w) }
+
+  pub inS-alike : {e t : ℕ} → InS N e t → InS F e t
+  inS-alike {e} i =
+      let a = i .arc in
+      record {
+        rest = i .rest;
+        arc = x .there e a;
+        from-head = rw (← x .head e a) (dist (i .from-head));
+        from-tail = rw (← x .tail e a, ← x .weight e a) (dist (i .from-tail));
+      }

@@ -1,0 +1,67 @@
+-- `boxwork::build` meets its contract. Assumes nothing.
+use mathlib.Core.Path.{_≡_, refl, sym, _∙_}
+use native.Mathlib.Omega.{arith}
+use borrow.Author.Needs.{needs}
+use Rattle.rules.specs.declared.Judged.the-variants.{Fine}
+use Rattle.settling.specs.Toward.{rows}
+use Rattle.boxwork.specs.Says.{BuildSays}
+use Rattle.boxwork.specs.JudgeLaws.{Lent, build-fine}
+use Rattle.boxwork.proofs.Meaning.{heads-nodes, built-by}
+use Rattle.boxwork.proofs.build.Statement.{statement}
+use Rattle.boxwork.proofs.build.Tie as tie
+
+-- what is lent, where it was judged fine
+lent :
+    (c : tie.After-judge-build) →
+    c .judge-build .result ≡ Fine →
+    let a = c .before .before .before .before .before .args in
+    Lent (a .n) (a .m) (rows (a .tails .now) (a .heads .now) (a .weights .now)) (a .x .now) (a .y .now) (a .boxes .now)
+lent c e = build-fine _ _ _ _ _ _ (sym (c .judge-build .ensures) ∙ e)
+
+judge-build-requires : tie.Need-judge-build-requires
+judge-build-requires c κs = search needs
+
+enum-told : tie.Need-enum-told
+enum-told c = search needs
+
+enum-told-2 : tie.Need-enum-told-2
+enum-told-2 c = search needs
+
+same-length : tie.Need-same-length
+same-length c = search needs
+
+returns : tie.Need-returns
+returns c = let e = c .enum-told2 .given .1 in rw e (BuildSays.refused (sym (c .before .before .judge-build .ensures) ∙ e))
+
+start-all-requires : tie.Need-start-all-requires
+start-all-requires c κs =
+    let l = lent (c .before .before .before) (c .before .enum-told .given .1) in
+    (heads-nodes (l .sound) (l .x-long) (omega arith), heads-nodes (l .sound) (l .y-long) (omega arith), omega (arith, l .boxes-long))
+
+grow-all-requires : tie.Need-grow-all-requires
+grow-all-requires c κs =
+    let l = lent (c .before .before .before .before .before .before) (c .before .before .before .before .enum-told .given .1) in
+    (l .sound, l .x-long, l .y-long, omega (arith, l .boxes-long, c .before .before .start-all .ensures .long))
+
+same-length-2 : tie.Need-same-length-2
+same-length-2 c = search needs
+
+returns-2 : tie.Need-returns-2
+returns-2 c =
+    let j = c .before .before .before .before .before .before .before .before in
+    let e = c .before .before .before .before .before .before .enum-told .given .1 in
+    BuildSays.built (sym (j .judge-build .ensures) ∙ e) (built-by (lent j e .sound) _ _ (c .before .grow-all .ensures) (c .before .before .before .before .start-all .ensures))
+
+pub build-spec : {M : Type 1} → statement M
+build-spec =
+    tie.close
+    (tie.spec
+    judge-build-requires
+    enum-told
+    enum-told-2
+    same-length
+    returns
+    start-all-requires
+    grow-all-requires
+    same-length-2
+    returns-2)

@@ -1,0 +1,65 @@
+-- `boxwork::check` meets its contract. Assumes nothing.
+use mathlib.Core.Path.{_≡_, refl, sym, _∙_}
+use borrow.Author.Needs.{needs}
+use Rattle.rules.specs.declared.Judged.the-variants.{Fine}
+use Rattle.settling.specs.Toward.{rows}
+use Rattle.boxwork.specs.Says.{CheckSays}
+use Rattle.boxwork.specs.JudgeLaws.{Lent, build-fine, check-fine}
+use Rattle.boxwork.proofs.Meaning.{missed-first, missed-none}
+use Rattle.boxwork.proofs.check.Statement.{statement}
+use Rattle.boxwork.proofs.check.Tie as tie
+
+-- what is lent, where it was judged fine
+lent :
+    (c : tie.After-judge-check) →
+    c .judge-check .result ≡ Fine →
+    let a = c .before .before .before .before .args in
+    Lent (a .n) (a .m) (rows (a .tails .now) (a .heads .now) (a .weights .now)) (a .x .now) (a .y .now) (a .boxes .now)
+lent c e = build-fine _ _ _ _ _ _ (check-fine _ _ _ _ _ _ (sym (c .judge-check .ensures) ∙ e) .0)
+
+judge-check-requires : tie.Need-judge-check-requires
+judge-check-requires c κs = search needs
+
+enum-told : tie.Need-enum-told
+enum-told c = search needs
+
+enum-told-2 : tie.Need-enum-told-2
+enum-told-2 c = search needs
+
+returns : tie.Need-returns
+returns c = let e = c .enum-told2 .given .1 in rw e (CheckSays.refused (sym (c .before .before .judge-check .ensures) ∙ e))
+
+find-missed-requires : tie.Need-find-missed-requires
+find-missed-requires c κs = let l = lent (c .before .before) (c .enum-told .given .1) in (l .sound, l .x-long, l .y-long, l .boxes-long)
+
+enum-known-missed : tie.Need-enum-known-missed
+enum-known-missed c = search needs
+
+enum-told-3 : tie.Need-enum-told-3
+enum-told-3 c = search needs
+
+returns-2 : tie.Need-returns-2
+returns-2 c =
+    let j = c .before .before .before .before .before in
+    let e = c .before .before .before .enum-told .given .1 in
+    CheckSays.consistent (sym (j .judge-check .ensures) ∙ e) (missed-none (lent j e .sound) _ _ _ (rw (c .enum-told3 .given .1) at (c .before .before .find-missed .ensures)))
+
+returns-3 : tie.Need-returns-3
+returns-3 c =
+    let j = c .before .before .before .before .before .before in
+    let e = c .before .before .before .before .enum-told .given .1 in
+    CheckSays.missed (sym (j .judge-check .ensures) ∙ e) (missed-first (lent j e .sound) _ _ _ (rw (c .before .missed .given .1) at (c .before .before .before .find-missed .ensures)))
+
+pub check-spec : {M : Type 1} → statement M
+check-spec =
+    tie.close
+    (tie.spec
+    judge-check-requires
+    enum-told
+    enum-told-2
+    returns
+    find-missed-requires
+    enum-known-missed
+    enum-told-3
+    returns-2
+    returns-3)

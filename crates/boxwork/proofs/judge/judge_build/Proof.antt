@@ -1,0 +1,54 @@
+-- `boxwork::judge::judge_build` meets its contract: each refusal is handed on as it came. Assumes nothing.
+use mathlib.Core.Path.{_≡_, sym, _∙_}
+use borrow.Author.Needs.{needs}
+use Rattle.settling.specs.Toward.{rows}
+use Rattle.search.specs.Judge.{boxRowsLong, networkJudged}
+use Rattle.search.specs.JudgeLaws.{network-fine, long-boxes}
+use Rattle.search.proofs.Turns.{out, on}
+use Rattle.boxwork.specs.JudgeLaws.{build-judged}
+use Rattle.boxwork.proofs.judge.judge_build.Statement.{statement}
+use Rattle.boxwork.proofs.judge.judge_build.Tie as tie
+
+-- the network is judged with the test of the other rows
+told :
+    (c : tie.After-judge-network) →
+    let a = c .before .before .before .before .before .args in
+    c .judge-network .result ≡ networkJudged (a .n) (a .m) (rows (a .tails .now) (a .heads .now) (a .weights .now)) (boxRowsLong (a .n) (a .m) (a .x .now) (a .y .now) (a .boxes .now))
+told c = rw (c .before .box-rows-long .ensures) at (c .judge-network .ensures)
+
+box-rows-long-requires : tie.Need-box-rows-long-requires
+box-rows-long-requires c κs = search needs
+
+judge-network-requires : tie.Need-judge-network-requires
+judge-network-requires c κs = search needs
+
+enum-told : tie.Need-enum-told
+enum-told c = search needs
+
+enum-told-2 : tie.Need-enum-told-2
+enum-told-2 c = search needs
+
+returns : tie.Need-returns
+returns c = out _ (told (c .before .before)) (c .enum-told2 .given .1) ∙ sym (build-judged _ _ _ _ _ _)
+
+judge-places-requires : tie.Need-judge-places-requires
+judge-places-requires c κs =
+    let a = c .before .before .before .before .before .before .before .args in
+    let f = network-fine (a .n) (a .m) _ _ (sym (told (c .before .before)) ∙ c .enum-told .given .1) in
+    let l = long-boxes (a .n) (a .m) (a .x .now) (a .y .now) (a .boxes .now) (f .1) in
+    (f .0 .nodes-high, l .0, l .1)
+
+returns-2 : tie.Need-returns-2
+returns-2 c = on (told (c .before .before .before)) (c .before .enum-told .given .1) (c .judge-places .ensures) ∙ sym (build-judged _ _ _ _ _ _)
+
+pub judge-build-spec : {M : Type 1} → statement M
+judge-build-spec =
+    tie.close
+    (tie.spec
+    box-rows-long-requires
+    judge-network-requires
+    enum-told
+    enum-told-2
+    returns
+    judge-places-requires
+    returns-2)

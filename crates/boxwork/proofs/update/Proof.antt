@@ -1,0 +1,89 @@
+-- `boxwork::update` meets its contract. Assumes nothing.
+use Prim.Native.Nat.{_≤_}
+use mathlib.Core.Path.{_≡_, sym, _∙_}
+use native.Mathlib.Omega.{arith}
+use borrow.Author.Needs.{needs}
+use Rattle.rules.specs.declared.Judged.the-variants.{Fine}
+use Rattle.settling.specs.Toward.{rows}
+use Rattle.boxwork.specs.Says.{UpdateSays, reweighted}
+use Rattle.boxwork.specs.JudgeLaws.{Lent, build-fine, check-fine, update-fine, lent-reweighted}
+use Rattle.boxwork.proofs.Meaning.{heads-nodes, updated-says}
+use Rattle.boxwork.proofs.update.Statement.{statement}
+use Rattle.boxwork.proofs.update.Tie as tie
+
+-- what is lent, where it was judged fine: the new network is sound too
+fine :
+    (c : tie.After-judge-update) →
+    c .judge-update .result ≡ Fine →
+    let a = c .before .before .before .before .before .before .args in
+    let R = rows (a .tails .now) (a .heads .now) (a .weights .now) in
+    Lent (a .n) (a .m) R (a .x .now) (a .y .now) (a .boxes .now) × (1 ≤ a .arc) × (a .arc ≤ a .m)
+    × Lent (a .n) (a .m) (reweighted R (a .arc) (a .weight)) (a .x .now) (a .y .now) (a .boxes .now)
+fine c e =
+    let u = update-fine _ _ _ _ _ _ _ _ (sym (c .judge-update .ensures) ∙ e) in
+    let l = build-fine _ _ _ _ _ _ (check-fine _ _ _ _ _ _ (u .0) .0) in
+    (l, u .1, u .2, lent-reweighted (l .sound) _ _ (u .1) (u .2) (u .3) l)
+
+judge-update-requires : tie.Need-judge-update-requires
+judge-update-requires c κs = search needs
+
+enum-told : tie.Need-enum-told
+enum-told c = search needs
+
+enum-told-2 : tie.Need-enum-told-2
+enum-told-2 c = search needs
+
+same-length : tie.Need-same-length
+same-length c = search needs
+
+same-length-2 : tie.Need-same-length-2
+same-length-2 c = search needs
+
+returns : tie.Need-returns
+returns c = let e = c .enum-told2 .given .1 in rw e (UpdateSays.refused (sym (c .before .before .judge-update .ensures) ∙ e))
+
+set-weight-requires : tie.Need-set-weight-requires
+set-weight-requires c κs =
+    let f = fine (c .before .before .before) (c .before .enum-told .given .1) in
+    (f .1, omega (arith, f .2, f .0 .sound .weights-long))
+
+grow-heads-requires : tie.Need-grow-heads-requires
+grow-heads-requires c κs =
+    let f = fine (c .before .before .before .before .before .before .before) (c .before .before .before .before .before .enum-told .given .1) in
+    let l = f .0 in
+    (heads-nodes (l .sound) (l .x-long) (omega (arith, f .2)), heads-nodes (l .sound) (l .y-long) (omega (arith, f .2)), omega (arith, f .2, l .boxes-long))
+
+grow-all-requires : tie.Need-grow-all-requires
+grow-all-requires c κs =
+    let s = c .before .before .before .before .before .before .before in
+    let l = fine (s .before .before .before .before) (s .before .before .enum-told .given .1) .3 in
+    (rw (s .set-weight .ensures) (l .sound), l .x-long, l .y-long, omega (arith, l .boxes-long, c .before .before .before .grow-heads .ensures .long))
+
+same-length-3 : tie.Need-same-length-3
+same-length-3 c = search needs
+
+same-length-4 : tie.Need-same-length-4
+same-length-4 c = search needs
+
+returns-2 : tie.Need-returns-2
+returns-2 c =
+    let s = c .before .before .before .before .before .before .before .before .before in
+    updated-says (sym (s .before .before .before .before .judge-update .ensures) ∙ s .before .before .enum-told .given .1) (s .set-weight .ensures)
+    (c .before .before .before .before .before .grow-heads .ensures) (c .before .grow-all .ensures)
+
+pub update-spec : {M : Type 1} → statement M
+update-spec =
+    tie.close
+    (tie.spec
+    judge-update-requires
+    enum-told
+    enum-told-2
+    same-length
+    same-length-2
+    returns
+    set-weight-requires
+    grow-heads-requires
+    grow-all-requires
+    same-length-3
+    same-length-4
+    returns-2)

@@ -1,0 +1,129 @@
+// The box work over rows as they are lent: build, check and update.
+ghost use mathlib.Core.Path.{_≡_};
+ghost use Prim.Native.Nat.{_-_, _≤_};
+ghost use lib.ListN.{length, set};
+ghost use Rattle.rules.specs.Paper.{judgedReply};
+ghost use Rattle.settling.specs.Toward.{rows};
+ghost use Rattle.boxwork.specs.Says.{BuildSays, CheckSays, UpdateSays};
+use drawing::compare::Missed;
+use rules::Judged;
+use rules::Refusal;
+
+pub mod judge;
+
+// Build writes the tight boxes: each is the smallest that holds its arc's head and all of its S(e).
+pub fn build(
+    n: u32,
+    m: u32,
+    tails: &[u32],
+    heads: &[u32],
+    weights: &[u32],
+    x: &[i32],
+    y: &[i32],
+    boxes: &mut [i32],
+) -> Judged
+    ensures { λ r. ⌜ BuildSays n m (rows (now (tails .entry)) (now (heads .entry)) (now (weights .entry))) (now (x .entry)) (now (y .entry)) (now (boxes .entry)) (judgedReply r) (now (boxes .exit)) ⌝ }
+{
+    let j = judge::judge_build(n, m, tails, heads, weights, x, y, boxes);
+    let Judged::Fine = j else {
+        return j;
+    };
+    drawing::grow::start_all(m as usize, heads, x, y, boxes);
+    drawing::grow::grow_all(
+        n as usize,
+        m as usize,
+        tails,
+        heads,
+        weights,
+        x,
+        y,
+        boxes,
+    );
+    Judged::Fine
+}
+
+// Check accepts exactly consistent boxes: each holds all of its S(e). Else 13 names the lowest arc, and then its lowest missed node.
+pub fn check(
+    n: u32,
+    m: u32,
+    tails: &[u32],
+    heads: &[u32],
+    weights: &[u32],
+    x: &[i32],
+    y: &[i32],
+    boxes: &[i32],
+) -> Judged
+    ensures { λ r. ⌜ CheckSays n m (rows (now (tails .entry)) (now (heads .entry)) (now (weights .entry))) (now (x .entry)) (now (y .entry)) (now (boxes .entry)) (judgedReply r) ⌝ }
+{
+    let j = judge::judge_check(n, m, tails, heads, weights, x, y, boxes);
+    let Judged::Fine = j else {
+        return j;
+    };
+    let missed = drawing::compare::find_missed(
+        n as usize,
+        m as usize,
+        tails,
+        heads,
+        weights,
+        x,
+        y,
+        boxes,
+    );
+    let Missed::At { arc, node } = missed else {
+        return Judged::Fine;
+    };
+    Judged::Refused(Refusal::BoxMisses { arc, node })
+}
+
+// An arc's new weight is written.
+fn set_weight(weights: &mut [u32], arc: u32, weight: u32)
+    requires { ⌜ (1 ≤ arc) × (arc ≤ length (now weights)) ⌝ }
+    ensures { λ _. ⌜ now (weights .exit) ≡ set (now (weights .entry)) (arc - 1) weight ⌝ }
+{
+    weights[arc as usize - 1] = weight;
+}
+
+// Update writes an arc's new weight, and makes each box the smallest that holds its old box and its tight box in the new network.
+pub fn update(
+    n: u32,
+    m: u32,
+    tails: &[u32],
+    heads: &[u32],
+    weights: &mut [u32],
+    x: &[i32],
+    y: &[i32],
+    boxes: &mut [i32],
+    arc: u32,
+    weight: u32,
+) -> Judged
+    ensures { λ r. ⌜ UpdateSays n m (rows (now (tails .entry)) (now (heads .entry)) (now (weights .entry))) (now (x .entry)) (now (y .entry)) (now (boxes .entry)) arc weight (judgedReply r) (now (weights .exit)) (now (boxes .exit)) ⌝ }
+{
+    let j = judge::judge_update(
+        n,
+        m,
+        tails,
+        heads,
+        weights,
+        x,
+        y,
+        boxes,
+        arc,
+        weight,
+    );
+    let Judged::Fine = j else {
+        return j;
+    };
+    set_weight(weights, arc, weight);
+    drawing::grow::grow_heads(m as usize, heads, x, y, boxes);
+    drawing::grow::grow_all(
+        n as usize,
+        m as usize,
+        tails,
+        heads,
+        weights,
+        x,
+        y,
+        boxes,
+    );
+    Judged::Fine
+}

@@ -1,0 +1,60 @@
+-- A box grown by places is the smallest that holds what it held and those. Assumes nothing.
+use Prim.Native.Nat.{ℕ, zero, suc, _≤_}
+use mathlib.Core.Path.{_≡_, refl}
+use mathlib.Core.Logic.{_⊎_, inl, inr, ⊎-elim}
+use mathlib.Core.Bool.{Bool, true, false, false≢true}
+use mathlib.Core.List.{List}
+use native.Mathlib.Omega.{arith}
+use native.Mathlib.Decide.{ℕ-discrete}
+use lib.IntN.{ℤ}
+use Rattle.geometry.specs.Box.{Box, Upright, Smallest}
+use Rattle.geometry.specs.Row.{coordinate}
+use Rattle.geometry.proofs.SmallestLaws.{IsPlace, smallest-same, grown-smallest, grown-upright}
+use Rattle.settling.specs.Choice.{cond-by}
+use Rattle.drawing.specs.Grown.{grownIf, grownBy}
+
+-- (px, py) is the place of a node of 1..n to which the arc leads
+pub record Led (leads : ℕ → Bool) (x y : List ℤ) (n : ℕ) (px py : ℤ) : Type 0 where
+  pub node : ℕ
+  pub low : 1 ≤ node
+  pub high : node ≤ n
+  pub leading : leads node ≡ true
+  pub place : IsPlace (coordinate x node) (coordinate y node) px py
+
+-- b is upright and the smallest around P
+abbrev Snug : (ℤ → ℤ → Type 0) → Box → Type 0
+Snug P b = Upright b × Smallest P b
+
+module _ (leads : ℕ → Bool) (x y : List ℤ) {P : ℤ → ℤ → Type 0} {b : Box} (upright : Upright b) (smallest : Smallest P b) where
+  -- with one node more
+  longer : {t : ℕ} {px py : ℤ} → Led leads x y t px py → Led leads x y (suc t) px py
+  longer h = record { node = h .node; low = h .low; high = omega (arith, h .high); leading = h .leading; place = h .place }
+
+  last : (t : ℕ) {px py : ℤ} → Led leads x y (suc t) px py → Led leads x y t px py ⊎ ((leads (suc t) ≡ true) × IsPlace (coordinate x (suc t)) (coordinate y (suc t)) px py)
+  last t {px} {py} h = elim (ℕ-discrete (h .node) (suc t)) [
+    | yes e ↦ inr (rw e at (h .leading), rw e at (h .place))
+    | no e ↦ inl (record { node = h .node; low = h .low; high = omega (arith, h .high); leading = h .leading; place = h .place })
+  ]
+
+  pub grown-by : (n : ℕ) → Snug (λ px py. P px py ⊎ Led leads x y n px py) (grownBy leads x y n b)
+  unfolding grownBy grownIf
+  grown-by zero = (upright, smallest-same (λ px py. inl) (λ px py. ⊎-elim (λ p. p) (λ h. absurd (omega (arith, h .low, h .high)))) smallest)
+  grown-by (suc t) =
+      let old = grown-by t in
+      let u = coordinate x (suc t) in
+      let v = coordinate y (suc t) in
+      cond-by (Snug (λ px py. P px py ⊎ Led leads x y (suc t) px py)) (leads (suc t)) _ _
+      (λ yes. (
+        grown-upright u v (old .0),
+        smallest-same
+        (λ px py. ⊎-elim (⊎-elim inl (λ h. inr (longer h))) (λ h. inr (record { node = suc t; low = omega arith; high = omega arith; leading = yes; place = h })))
+        (λ px py. ⊎-elim (λ p. inl (inl p)) (λ h. ⊎-elim (λ k. inl (inr k)) (λ k. inr (k .1)) (last t h)))
+        (grown-smallest u v (old .0) (old .1)),
+      ))
+      (λ not. (
+        old .0,
+        smallest-same
+        (λ px py. ⊎-elim inl (λ h. inr (longer h)))
+        (λ px py. ⊎-elim inl (λ h. ⊎-elim inr (λ k. absurd (let z : true ≡ false = cc in false≢true (cc))) (last t h)))
+        (old .1),
+      ))
