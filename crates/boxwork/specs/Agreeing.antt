@@ -31,15 +31,15 @@ use Rattle.boxwork.specs.JudgeLaws.{build-judged, check-judged}
 -- Two searches agree: the same length, arc count and route, which stands in rows that are the same; or 12 together; or both are
 -- refused for the same reason. Settled counts may differ.
 pub data Agree : Reply → List ℕ → Reply → List ℕ → Type 0 where
-  same-route : {length′ arcs settled settled′ : ℕ} {row : List ℕ} → Agree (accepted (length′ ∷ arcs ∷ settled ∷ [])) row (accepted (length′ ∷ arcs ∷ settled′ ∷ [])) row
-  no-walk : {settled settled′ : ℕ} {row : List ℕ} → Agree (refusal (NoWalk settled)) row (refusal (NoWalk settled′)) row
+  same-route : {d k c c′ : ℕ} {row : List ℕ} → Agree (accepted (d ∷ k ∷ c ∷ [])) row (accepted (d ∷ k ∷ c′ ∷ [])) row
+  no-walk : {c c′ : ℕ} {row : List ℕ} → Agree (refusal (NoWalk c)) row (refusal (NoWalk c′)) row
   same-refusal : (r : Refusal) {row : List ℕ} → Agree (refusal r) row (refusal r) row
 
 -- ---- Laws
 
 module _ {N F : Net} {n s t : ℕ} {before : List ℕ} (same : SameAnswers N F s t) where
   answers-agree : {reply reply′ : Reply} {after after′ : List ℕ} → Answers N n s t before reply after → Answers F n s t before reply′ after′ → Agree reply after reply′ after′
-  answers-agree (found {length′ = d} {arcs = k} {route = arcs} p) (found {length′ = d′} {arcs = k′} {route = arcs′} q) =
+  answers-agree (found {d = d} {k = k} {arcs = arcs} p) (found {d = d′} {k = k′} {arcs = arcs′} q) =
       let b = same .best _ _ .0 (p .best) in
       let el : d ≡ d′ = best-length b (q .best) in
       let ek : k ≡ k′ = best-count b (q .best) in
