@@ -1,7 +1,7 @@
 -- An accepted text's rows satisfy all limits, so that refusals 5, 8 and 9 of the other parts cannot follow a reading. Assumes nothing.
 use mathlib.Core.Path.{_≡_, refl, sym, ap, _∙_}
 use mathlib.Core.List.{List, [], _∷_, _++_, map}
-use mathlib.Core.Bool.{Bool, true, false, _&&_}
+use mathlib.Core.Bool.{true, _&&_}
 use Prim.Native.Nat.{ℕ, zero, suc, _+_, _≤_, _<_}
 use native.Mathlib.Nat.{le-of-suc-le-suc}
 use native.Mathlib.Omega.{arith}
@@ -10,44 +10,29 @@ use lib.IntN.{ℤ, pos}
 use lib.ListN.{length, getD, drop}
 use lib.Signed.{leZ, leZ-yes, _≤ℤ_}
 use borrow.Author.Tests.{leb-true}
-use Rattle.rules.specs.Paper.{Reply, refusal, accepted}
+use Rattle.rules.specs.Paper.{Reply, refusal, accepted, refusal-nonzero}
 use Rattle.rules.specs.Limits.{mostNodes, longestText}
 use Rattle.rules.specs.Judging.{orElse, passes}
 use Rattle.rules.specs.declared.Refusal.{Refusal}
-use Rattle.rules.specs.declared.Refusal.the-variants.{TextTooLong, RowTooShort, NoForm, OutOfOrder, BeyondLimits, CountsDisagree, NodeAgain, BadArc, BadCoordinate, BadBox, NotInNetwork, NoWalk, BoxMisses}
-use Rattle.rules.specs.declared.Judged.{Judged}
-use Rattle.scan.specs.Forms.{none}
-use Rattle.scan.specs.declared.form.Numbers.{Numbers}
+use Rattle.rules.specs.declared.Refusal.the-variants.{TextTooLong, RowTooShort, BeyondLimits}
+use Rattle.rules.specs.declared.Judged.the-variants.{Fine}
+use Rattle.scan.specs.Fields.{none}
+use Rattle.scan.specs.declared.fields.Numbers.{Numbers}
 use Rattle.dimacs.specs.Gr.{grRules}
 use Rattle.dimacs.specs.Co.{coRules}
 use Rattle.dimacs.specs.Texts.{Outcome, read, refused, readText}
-use Rattle.dimacs.specs.Rows.{naturalOf, integerOf, row}
+use Rattle.dimacs.specs.Rows.{columnOf, axisOf, row}
 use Rattle.dimacs.specs.Reading.{readGr, grSays, readCo, coSays}
 use Rattle.dimacs.specs.Accepted.{GrLimits, CoLimits}
 use Rattle.dimacs.specs.declared.format.Format.the-variants.{Graph, Coordinates}
 use Rattle.dimacs.specs.declared.rows.Column.the-variants.{First, Second, Third}
 use Rattle.dimacs.specs.declared.rows.Axis.the-variants.{X, Y}
 use Rattle.dimacs.proofs.Fairness.{both, or-fine, passes-fine, Inside, inside}
-use Rattle.dimacs.proofs.Sound.{Sound, Entry, sound, onward}
+use Rattle.dimacs.proofs.Sound.{sound, onward}
 
--- no refusal has the number of an acceptance
-refusal-some : (r : Refusal) → 1 ≤ refusal r .number
-refusal-some TextTooLong = omega arith
-refusal-some RowTooShort = omega arith
-refusal-some (NoForm k) = omega arith
-refusal-some (OutOfOrder k) = omega arith
-refusal-some (BeyondLimits k) = omega arith
-refusal-some (CountsDisagree k) = omega arith
-refusal-some (NodeAgain k) = omega arith
-refusal-some (BadArc k) = omega arith
-refusal-some (BadCoordinate k) = omega arith
-refusal-some (BadBox k) = omega arith
-refusal-some NotInNetwork = omega arith
-refusal-some (NoWalk k) = omega arith
-refusal-some (BoxMisses k j) = omega arith
-
+-- no refusal is an acceptance
 pub not-accepted : (r : Refusal) (results : List ℕ) → refusal r ≡ accepted results → ⊥
-not-accepted r results e = let z : refusal r .number ≡ 0 = ap (λ (x : Reply). x .number) e in omega (arith, refusal-some r)
+not-accepted r results e = refusal-nonzero r (sym (ap (λ (x : Reply). x .number) e))
 
 -- what stands in front of a row
 front : {A : Type 0} (f : Numbers → A) (lines : List Numbers) (old : List A) (i : ℕ) (d : A) → i < length lines → getD (map f lines ++ old) i d ≡ f (getD lines i none)
@@ -70,7 +55,7 @@ co-count n text p lines h e =
 -- ---- .gr
 
 gr-lines : (text : List ℕ) (p : Numbers) (lines : List Numbers) (a b c : List ℕ) → readText Graph text ≡ read p lines
-    → GrLimits (p .second) (p .third) (map (naturalOf First) lines ++ a) (map (naturalOf Second) lines ++ b) (map (naturalOf Third) lines ++ c)
+    → GrLimits (p .second) (p .third) (map (columnOf First) lines ++ a) (map (columnOf Second) lines ++ b) (map (columnOf Third) lines ++ c)
 unfolding grRules
 gr-lines text p lines a b c e =
     let s = sound Graph tt text p lines e in
@@ -81,9 +66,84 @@ gr-lines text p lines a b c e =
       some-node = i .low .second;
       nodes = i .high .second;
       arcs = i .high .third;
-      tail-least = λ k h. rw (front (naturalOf First) lines a k 0 (at k h)) (line k h .low .first);
-      tail-most = λ k h. rw (front (naturalOf First) lines a k 0 (at k h)) (line k h .high .first);
-      head-least = λ k h. rw (front (naturalOf Second) lines b k 0 (at k h)) (line k h .low .second);
-      head-most = λ k h. rw (front (naturalOf Second) lines b k 0 (at k h)) (line k h .high .second);
-      weight = λ k h. rw (front (naturalOf Third) lines c k 0 (at k h)) (line k h .high .third);
+      tail-least = λ k h. rw (front (columnOf First) lines a k 0 (at k h)) (line k h .low .first);
+      tail-most = λ k h. rw (front (columnOf First) lines a k 0 (at k h)) (line k h .high .first);
+      head-least = λ k h. rw (front (columnOf Second) lines b k 0 (at k h)) (line k h .low .second);
+      head-most = λ k h. rw (front (columnOf Second) lines b k 0 (at k h)) (line k h .high .second);
+      weight = λ k h. rw (front (columnOf Third) lines c k 0 (at k h)) (line k h .high .third);
     }
+
+-- what was accepted was read
+gr-read : (text a b c : List ℕ) (p : Numbers) (lines : List Numbers) → readGr text a b c ≡ read p lines → readText Graph text ≡ read p lines
+unfolding readGr
+gr-read text a b c p lines e = onward _ _ _ _ e .1
+
+-- the rows that `read_gr` leaves after it said n and m
+pub gr-limits : (text a b c : List ℕ) (n m : ℕ) → grSays (readGr text a b c) ≡ accepted (n ∷ m ∷ [])
+    → GrLimits n m (row (columnOf First) (readGr text a b c) a) (row (columnOf Second) (readGr text a b c) b) (row (columnOf Third) (readGr text a b c) c)
+unfolding grSays row
+gr-limits text a b c n m e = by-outcome (readGr text a b c) (gr-read text a b c) e
+  where
+    by-outcome : (o : Outcome) → ((p : Numbers) (lines : List Numbers) → o ≡ read p lines → readText Graph text ≡ read p lines) → grSays o ≡ accepted (n ∷ m ∷ [])
+        → GrLimits n m (row (columnOf First) o a) (row (columnOf Second) o b) (row (columnOf Third) o c)
+    by-outcome (read p lines) from d =
+        let en : p .second ≡ n = ap (λ (r : Reply). getD (r .values) 0 0) d in
+        let em : p .third ≡ m = ap (λ (r : Reply). getD (r .values) 1 0) d in
+        rw (← en, ← em) (gr-lines text p lines (drop (p .third) a) (drop (p .third) b) (drop (p .third) c) (from p lines refl))
+    by-outcome (refused r) from d = absurd (not-accepted r (n ∷ m ∷ []) d)
+
+-- ---- .co
+
+shown : {a b : ℤ} → leZ a b ≡ true → a ≤ℤ b
+shown {a} {b} e = leZ-yes (rw e tt)
+
+co-lines : (n : ℕ) → n ≤ 512 → (text : List ℕ) (p : Numbers) (lines : List Numbers) (a b : List ℤ) → readText (Coordinates n) text ≡ read p lines
+    → CoLimits n (map (axisOf X) lines ++ a) (map (axisOf Y) lines ++ b)
+unfolding coRules
+co-lines n ok text p lines a b e =
+    let s = sound (Coordinates n) ok text p lines e in
+    let all : p .third ≡ n = co-count n text p lines ok e in
+    let at : (k : ℕ) → k < n → k < length lines = λ k h. omega (arith, s .long) in
+    let line : (k : ℕ) → k < n → Inside (coRules n .entries) (getD lines k none) = λ k h. inside (coRules n .entries) (getD lines k none) (s .entry k (omega arith) .inside) in
+    record {
+      x-least = λ k h. rw (front (axisOf X) lines a k (pos 0) (at k h)) (shown (line k h .low .x));
+      x-most = λ k h. rw (front (axisOf X) lines a k (pos 0) (at k h)) (shown (line k h .high .x));
+      y-least = λ k h. rw (front (axisOf Y) lines b k (pos 0) (at k h)) (shown (line k h .low .y));
+      y-most = λ k h. rw (front (axisOf Y) lines b k (pos 0) (at k h)) (shown (line k h .high .y));
+    }
+
+co-read : (text : List ℕ) (n : ℕ) (a b : List ℤ) (p : Numbers) (lines : List Numbers) → readCo text n a b ≡ read p lines
+    → (n ≤ 512) × (readText (Coordinates n) text ≡ read p lines)
+unfolding readCo
+co-read text n a b p lines e =
+    let wide = leb mostNodes (length a) && leb mostNodes (length b) in
+    let given = passes (leb 1 n && leb n mostNodes) (BeyondLimits 0) in
+    let d = onward _ _ _ _ e in
+    let f = or-fine (passes (leb (length text) longestText) TextTooLong) (orElse (passes wide RowTooShort) (orElse given Fine)) (d .0) in
+    let g = or-fine (passes wide RowTooShort) (orElse given Fine) (f .1) in
+    let h = or-fine given Fine (g .1) in
+    let i = both (leb 1 n) (leb n mostNodes) (passes-fine _ _ (h .0)) in
+    (leb-true _ _ (i .1), d .1)
+
+-- the rows that `read_co` leaves after it accepted
+pub co-limits : (text : List ℕ) (n : ℕ) (a b : List ℤ) → coSays (readCo text n a b) ≡ accepted []
+    → CoLimits n (row (axisOf X) (readCo text n a b) a) (row (axisOf Y) (readCo text n a b) b)
+unfolding coSays row
+co-limits text n a b e = by-outcome (readCo text n a b) (co-read text n a b) e
+  where
+    by-outcome : (o : Outcome) → ((p : Numbers) (lines : List Numbers) → o ≡ read p lines → (n ≤ 512) × (readText (Coordinates n) text ≡ read p lines)) → coSays o ≡ accepted []
+        → CoLimits n (row (axisOf X) o a) (row (axisOf Y) o b)
+    by-outcome (read p lines) from d =
+        let f = from p lines refl in
+        co-lines n (f .0) text p lines (drop (p .third) a) (drop (p .third) b) (f .1)
+    by-outcome (refused r) from d = absurd (not-accepted r [] d)
+
+-- each node has its line: at a node's place stands the line that names it
+pub co-nodes : (text : List ℕ) (n : ℕ) (a b : List ℤ) (p : Numbers) (lines : List Numbers) → readCo text n a b ≡ read p lines
+    → (length lines ≡ n) × ((i : ℕ) → i < n → getD lines i none .third ≡ i + 1)
+unfolding coRules
+co-nodes text n a b p lines e =
+    let f = co-read text n a b p lines e in
+    let s = sound (Coordinates n) (f .0) text p lines (f .1) in
+    let all : p .third ≡ n = co-count n text p lines (f .0) (f .1) in
+    (s .long ∙ all, λ i h. s .entry i (omega arith) .node refl)

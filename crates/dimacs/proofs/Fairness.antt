@@ -1,8 +1,8 @@
 -- Every format's rules are fair, and lines that are held alike are judged alike: reading goes by true values. Assumes nothing.
-use mathlib.Core.Path.{_≡_, refl, sym, ap, _∙_}
+use mathlib.Core.Path.{_≡_, refl, ap, _∙_}
 use mathlib.Core.List.{List}
 use mathlib.Core.Bool.{Bool, true, false, cond, _&&_, not}
-use Prim.Native.Nat.{ℕ, _-_, _≤_, _<_, min}
+use Prim.Native.Nat.{ℕ, _≤_, _<_, min}
 use native.Mathlib.Omega.{arith}
 use lib.Dec.{leb, ltb}
 use lib.IntN.{ℤ, pos, negsuc}
@@ -14,9 +14,9 @@ use Rattle.rules.specs.declared.Refusal.the-variants.{OutOfOrder, BeyondLimits,
 use Rattle.rules.specs.declared.Judged.{Judged}
 use Rattle.rules.specs.declared.Judged.the-variants.{Fine, Refused}
 use Rattle.scan.specs.Held.{held, heldZ, heldNumbers, heldLine}
-use Rattle.scan.specs.declared.form.Numbers.{Numbers}
-use Rattle.scan.specs.declared.form.Line.{Line}
-use Rattle.scan.specs.declared.form.Line.the-variants.{Comment, Problem, Data, Faulty}
+use Rattle.scan.specs.declared.fields.Numbers.{Numbers}
+use Rattle.scan.specs.declared.line.Line.{Line}
+use Rattle.scan.specs.declared.line.Line.the-variants.{Comment, Problem, Data, Faulty}
 use Rattle.dimacs.specs.Rules.{noneAbove, within}
 use Rattle.dimacs.specs.Gr.{grRules}
 use Rattle.dimacs.specs.Co.{coRules}
@@ -27,7 +27,7 @@ use Rattle.dimacs.specs.declared.format.Limits.{Limits}
 use Rattle.dimacs.specs.declared.format.Rules.{Rules}
 use Rattle.dimacs.specs.declared.format.Format.{Format}
 use Rattle.dimacs.specs.declared.format.Format.the-variants.{Graph, Coordinates}
-use Rattle.dimacs.specs.declared.sheet.Head.{Head}
+use Rattle.dimacs.specs.declared.judge.Head.{Head}
 
 clash : false ≡ true → ⊥
 clash e = let z : _≡_ {A = ℕ} 0 1 = ap (λ (b : Bool). cond b 1 0) e in omega arith
@@ -222,7 +222,7 @@ data-beyond : (R : Rules) (h : Head) (taken : List Bool) (k : ℕ) (a b : Number
 unfolding dataJudged
 data-beyond R h taken k a b p q = rw (p, q)
 
--- ---- a line is judged by what is held of it, and one that is fine is held as it is
+-- ---- the law that joins held numbers and true ones: a line is judged by what is held of it, and one that is fine is held as it is
 
 module _ (R : Rules) (fair : Fair R) (h : Head) (taken : List Bool) (k : ℕ) where
   problem-held : (ns : Numbers) → problemJudged R h k (heldNumbers ns) ≡ problemJudged R h k ns
@@ -239,23 +239,16 @@ module _ (R : Rules) (fair : Fair R) (h : Head) (taken : List Bool) (k : ℕ) wh
       by-test true e = ap (dataJudged R h taken k) (within-same (R .entries) (fair .entries) ns e)
       by-test false e = data-beyond R h taken k (heldNumbers ns) ns (within-held (R .entries) (fair .entries) ns ∙ e) e
 
-  judged-held : (l : Line) → judged R h taken k (heldLine l) ≡ judged R h taken k l
+  pub judged-held : (l : Line) → judged R h taken k (heldLine l) ≡ judged R h taken k l
   unfolding judged heldLine
   judged-held Comment = refl
   judged-held (Problem ns) = problem-held ns
   judged-held (Data ns) = data-held ns
   judged-held (Faulty f) = refl
 
-  fine-same : (l : Line) → judged R h taken k l ≡ Fine → heldLine l ≡ l
+  pub fine-held : (l : Line) → judged R h taken k l ≡ Fine → heldLine l ≡ l
   unfolding judged heldLine
-  fine-same Comment e = refl
-  fine-same (Problem ns) e = ap Problem (within-same (R .problem) (fair .problem) ns (problem-fine R h k ns e .inside))
-  fine-same (Data ns) e = ap Data (within-same (R .entries) (fair .entries) ns (data-fine R h taken k ns e .inside))
-  fine-same (Faulty f) e = refl
-
-  -- the law that joins held numbers and true ones
-  pub alike-judged : (a b : Line) → heldLine a ≡ heldLine b → judged R h taken k a ≡ judged R h taken k b
-  alike-judged a b e = sym (judged-held a) ∙ (ap (judged R h taken k) e ∙ judged-held b)
-
-  pub alike-fine : (a b : Line) → heldLine a ≡ heldLine b → judged R h taken k a ≡ Fine → a ≡ b
-  alike-fine a b e f = sym (fine-same a f) ∙ (e ∙ fine-same b (sym (alike-judged a b e) ∙ f))
+  fine-held Comment e = refl
+  fine-held (Problem ns) e = ap Problem (within-same (R .problem) (fair .problem) ns (problem-fine R h k ns e .inside))
+  fine-held (Data ns) e = ap Data (within-same (R .entries) (fair .entries) ns (data-fine R h taken k ns e .inside))
+  fine-held (Faulty f) e = refl

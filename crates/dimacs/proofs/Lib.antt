@@ -5,3 +5,5 @@ mod Reading
 mod Replies
 mod RowLaws
 mod Sound
+pub mod Unique
+pub mod Worked

@@ -1,6 +1,6 @@
 -- Laws of reading a text line by line, for any format. Assumes nothing.
 use mathlib.Core.Path.{_≡_, refl, sym, ap, _∙_}
-use mathlib.Core.List.{List, [], _∷_}
+use mathlib.Core.List.{List}
 use mathlib.Core.Bool.{Bool, true, false, cond}
 use Prim.Native.Nat.{ℕ, _+_, _-_, _≤_, _<_}
 use native.Mathlib.Nat.{add-assoc}
@@ -11,20 +11,20 @@ use Rattle.rules.specs.declared.Refusal.{Refusal}
 use Rattle.rules.specs.declared.Judged.{Judged}
 use Rattle.rules.specs.declared.Judged.the-variants.{Fine, Refused}
 use Rattle.scan.specs.Pieces.{pieces, firstAt, linesOf}
-use Rattle.scan.specs.Forms.{none}
+use Rattle.scan.specs.Fields.{none}
 use Rattle.scan.specs.Held.{heldLine}
-use Rattle.scan.specs.declared.form.Numbers.{Numbers}
-use Rattle.scan.specs.declared.form.Line.{Line}
-use Rattle.scan.specs.declared.form.Line.the-variants.{Comment, Problem, Data, Faulty}
+use Rattle.scan.specs.declared.fields.Numbers.{Numbers}
+use Rattle.scan.specs.declared.line.Line.{Line}
+use Rattle.scan.specs.declared.line.Line.the-variants.{Problem, Data}
 use Rattle.scan.proofs.PieceLaws.{lines-step}
 use Rattle.dimacs.specs.Formats.{formatLine, rulesOf}
 use Rattle.dimacs.specs.Judgement.{judged, ended}
-use Rattle.dimacs.specs.Texts.{Outcome, read, refused, State, start, place, next, onJudged, readLines, readText}
+use Rattle.dimacs.specs.Texts.{Outcome, read, refused, State, place, next, onJudged, readLines, readText}
 use Rattle.dimacs.specs.Fair.{Fair, FormatFair}
 use Rattle.dimacs.specs.declared.format.Rules.{Rules}
 use Rattle.dimacs.specs.declared.format.Format.{Format}
-use Rattle.dimacs.specs.declared.sheet.Head.{Head}
-use Rattle.dimacs.proofs.Fairness.{fair-of, inside, once-in, alike-judged, alike-fine, ProblemFine, problem-fine, DataFine, data-fine}
+use Rattle.dimacs.specs.declared.judge.Head.{Head}
+use Rattle.dimacs.proofs.Fairness.{fair-of, inside, once-in, judged-held, fine-held, problem-fine, DataFine, data-fine}
 
 -- what holds at a line's start: `at` bytes are read, the line is line k, and the state is s
 pub record Going (F : Format) (text : List ℕ) (s : State) (at k : ℕ) : Type 0 where
@@ -44,17 +44,33 @@ going-start F text a b p q = rw (p, q) (record { within = omega arith; lined = o
 
 -- ---- one line
 
-module _ (F : Format) (ok : FormatFair F) (text : List ℕ) (h : Head) (taken : List Bool) (lines : List Numbers) (at k : ℕ) (g : Going F text (state h taken lines) at k) (more : at < length text)
-    (t s : List ℕ) (e : ℕ) (l : Line) (R : Rules) (j : Judged) (p : t ≡ drop at text) (q : e ≡ firstAt 10 t) (el : e ≤ length t) (r : s ≡ take e t)
-    (same-line : heldLine l ≡ heldLine (formatLine F s)) (er : R ≡ rulesOf F (h .problem)) (ej : j ≡ judged R h taken k l) where
-  fair : Fair R
-  fair = rw er (fair-of F ok (h .problem) (g .nodes))
+-- what is known where the line l, which ends at e of what is left of the text, is judged by the rules R as j
+pub record Turn (F : Format) (text : List ℕ) (h : Head) (taken : List Bool) (lines : List Numbers) (at k e : ℕ) (l : Line) (R : Rules) (j : Judged) : Type 0 where
+  pub ok : FormatFair F
+  pub going : Going F text (state h taken lines) at k
+  pub more : at < length text
+  pub left : List ℕ
+  pub text-left : left ≡ drop at text
+  pub line-end : e ≡ firstAt 10 left
+  pub in-left : e ≤ length left
+  pub line : List ℕ
+  pub line-cut : line ≡ take e left
+  pub held-line : l ≡ heldLine (formatLine F line)
+  pub rules : R ≡ rulesOf F (h .problem)
+  pub judgement : j ≡ judged R h taken k l
 
-  turn : readText F text ≡ onJudged j (readLines F (linesOf (drop (at + e + 1) text)) (k + 1) (next R (state h taken lines) (formatLine F s)))
+module _ (F : Format) (text : List ℕ) (h : Head) (taken : List Bool) (lines : List Numbers) (at k e : ℕ) (l : Line) (R : Rules) (j : Judged) (g : Turn F text h taken lines at k e l R j) where
+  fair : Fair R
+  fair = rw (g .rules) (fair-of F (g .ok) (h .problem) (g .going .nodes))
+
+  same-judgement : j ≡ judged R h taken k (formatLine F (g .line))
+  same-judgement = g .judgement ∙ (ap (judged R h taken k) (g .held-line) ∙ judged-held R fair h taken k (formatLine F (g .line)))
+
+  turn : readText F text ≡ onJudged j (readLines F (linesOf (drop (at + e + 1) text)) (k + 1) (next R (state h taken lines) (formatLine F (g .line))))
   unfolding readLines
   turn =
-      rw (ej, alike-judged R fair h taken k l (formatLine F s) same-line, er, r, p)
-      (g .same ∙ rw (lines-step (drop at text) e (q ∙ ap (firstAt 10) p) (simp length-drop (omega arith)), drop-drop (e + 1) at text, ← add-assoc at e 1))
+      rw (same-judgement, g .rules, g .line-cut, g .text-left)
+      (g .going .same ∙ rw (lines-step (drop at text) e (g .line-end ∙ ap (firstAt 10) (g .text-left)) (simp length-drop (omega (arith, g .more))), drop-drop (e + 1) at text, ← add-assoc at e 1))
 
   pub line-out : (x : Refusal) → j ≡ Refused x → readText F text ≡ refused x
   unfolding onJudged
@@ -64,23 +80,23 @@ module _ (F : Format) (ok : FormatFair F) (text : List ℕ) (h : Head) (taken : 
     onward : readText F text ≡ readLines F (linesOf (drop (at + e + 1) text)) (k + 1) (next R (state h taken lines) l)
     unfolding onJudged
     onward =
-        let true-line = alike-fine R fair h taken k l (formatLine F s) same-line (sym ej ∙ fine) in
+        let true-line = g .held-line ∙ fine-held R fair h taken k (formatLine F (g .line)) (sym same-judgement ∙ fine) in
         rw true-line (rw fine at turn)
 
     step-in : at + e + 1 ≤ length text + 1
-    step-in = omega (arith, rw (p, length-drop) at el)
+    step-in = omega (arith, rw (g .text-left, length-drop) at (g .in-left), g .more)
 
     pub line-kept : next R (state h taken lines) l ≡ state h taken lines → Going F text (state h taken lines) (at + e + 1) (k + 1)
-    line-kept d = record { within = step-in; lined = omega arith; nodes = g .nodes; arcs = g .arcs; same = rw d at onward }
+    line-kept d = record { within = step-in; lined = omega (arith, g .going .lined); nodes = g .going .nodes; arcs = g .going .arcs; same = rw d at onward }
 
     pub line-problem : (ns : Numbers) → l ≡ Problem ns → Going F text (state (record { seen = true; problem = ns; count = h .count }) taken lines) (at + e + 1) (k + 1)
     unfolding next judged
     line-problem ns d =
-        let f = problem-fine R h k ns (rw d at (sym ej ∙ fine)) in
+        let f = problem-fine R h k ns (rw d at (sym (g .judgement) ∙ fine)) in
         let i = inside (R .problem) ns (f .inside) in
         record {
           within = step-in;
-          lined = omega arith;
+          lined = omega (arith, g .going .lined);
           nodes = omega (arith, i .high .second, fair .nodes);
           arcs = omega (arith, i .high .third, fair .count);
           same = rw d at onward;
@@ -88,13 +104,13 @@ module _ (F : Format) (ok : FormatFair F) (text : List ℕ) (h : Head) (taken : 
 
     data-line : (ns : Numbers) → l ≡ Data ns → DataFine R h taken ns
     unfolding judged
-    data-line ns d = data-fine R h taken k ns (rw d at (sym ej ∙ fine))
+    data-line ns d = data-fine R h taken k ns (rw d at (sym (g .judgement) ∙ fine))
 
     pub data-low : (ns : Numbers) → l ≡ Data ns → R .once ≡ true → 1 ≤ ns .third
     data-low ns d o = once-in R ns fair (data-line ns d .inside) o .0
 
     pub data-room : (ns : Numbers) → l ≡ Data ns → h .count < 2048
-    data-room ns d = omega (arith, data-line ns d .room, g .arcs)
+    data-room ns d = omega (arith, data-line ns d .room, g .going .arcs)
 
     pub data-place : (ns : Numbers) (i : ℕ) → l ≡ Data ns → i ≡ place R h ns → i < 2048
     data-place ns i d w = rw w (by-once (R .once) refl)
@@ -106,7 +122,7 @@ module _ (F : Format) (ok : FormatFair F) (text : List ℕ) (h : Head) (taken : 
     pub line-data : (ns : Numbers) (i : ℕ) → l ≡ Data ns → i ≡ place R h ns
         → Going F text (state (record { seen = h .seen; problem = h .problem; count = h .count + 1 }) (set taken i true) (set lines i ns)) (at + e + 1) (k + 1)
     unfolding next
-    line-data ns i d w = record { within = step-in; lined = omega arith; nodes = g .nodes; arcs = g .arcs; same = rw w (rw d at onward) }
+    line-data ns i d w = record { within = step-in; lined = omega (arith, g .going .lined); nodes = g .going .nodes; arcs = g .going .arcs; same = rw w (rw d at onward) }
 
 -- ---- the end
 

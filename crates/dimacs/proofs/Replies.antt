@@ -1,26 +1,26 @@
 -- Laws of the readers' replies and of the rows that they leave. Assumes nothing.
-use mathlib.Core.Path.{_≡_, refl, sym, ap, _∙_}
+use mathlib.Core.Path.{_≡_, sym, _∙_}
 use mathlib.Core.List.{List, _++_, map}
 use mathlib.Core.Bool.{Bool, true, false, _&&_}
 use Prim.Native.Nat.{ℕ, _≤_, _<_}
 use lib.Dec.{leb}
 use lib.IntN.{ℤ}
-use lib.ListN.{length, take, drop}
+use lib.ListN.{length, drop}
 use borrow.Author.Tests.{leb-true, le-leb, lt-leb}
-use Rattle.rules.specs.Paper.{refusal}
 use Rattle.rules.specs.declared.Refusal.{Refusal}
 use Rattle.rules.specs.declared.Refusal.the-variants.{TextTooLong, RowTooShort, BeyondLimits}
 use Rattle.rules.specs.declared.Judged.{Judged}
 use Rattle.rules.specs.declared.Judged.the-variants.{Fine, Refused}
-use Rattle.scan.specs.declared.form.Numbers.{Numbers}
+use Rattle.scan.specs.declared.fields.Numbers.{Numbers}
 use Rattle.dimacs.specs.Texts.{Outcome, read, refused, onJudged, readText}
-use Rattle.dimacs.specs.Rows.{naturalOf, integerOf, row}
-use Rattle.dimacs.specs.Reading.{grReply, coReply, readGr, grSays, readCo, coSays}
+use Rattle.dimacs.specs.Rows.{columnOf, axisOf, row}
+use Rattle.dimacs.specs.Reading.{readGr, grSays, readCo, coSays}
+use Rattle.dimacs.specs.Promise.{GrPromise, CoPromise}
 use Rattle.dimacs.specs.declared.format.Format.the-variants.{Graph, Coordinates}
 use Rattle.dimacs.specs.declared.rows.Column.the-variants.{First, Second, Third}
 use Rattle.dimacs.specs.declared.rows.Axis.the-variants.{X, Y}
-use Rattle.dimacs.specs.declared.GrReply.the-variants.{Read}
-use Rattle.dimacs.specs.declared.CoReply.the-variants.{Located}
+use Rattle.dimacs.specs.declared.GrReply.the-variants.{Read as GrRead, Refused as GrRefused}
+use Rattle.dimacs.specs.declared.CoReply.the-variants.{Read as CoRead, Refused as CoRefused}
 use Rattle.dimacs.proofs.Fairness.{both}
 
 -- the outcome of a text that was judged
@@ -50,16 +50,15 @@ module _ (text tails heads weights : List ℕ) where
   unfolding readGr onJudged
   gr-text h i = rw (le-leb _ _ h, i)
 
-pub gr-out : (o : Outcome) (x : Refusal) (a b c : List ℕ) → o ≡ refused x
-    → (refusal x ≡ grSays o) × (a ≡ row (naturalOf First) o a) × (b ≡ row (naturalOf Second) o b) × (c ≡ row (naturalOf Third) o c)
-unfolding grSays row
-gr-out o x a b c e = rw e (refl, refl, refl, refl)
+  pub gr-out : (r : Refusal) → readGr text tails heads weights ≡ refused r → GrPromise text tails heads weights (GrRefused r) tails heads weights
+  unfolding grSays row
+  gr-out r e = record { reply = rw e; tails-left = rw e; heads-left = rw e; weights-left = rw e }
 
-pub gr-in : (o : Outcome) (p : Numbers) (lines : List Numbers) (a b c a′ b′ c′ : List ℕ) → o ≡ read p lines
-    → a′ ≡ map (naturalOf First) lines ++ drop (p .third) a → b′ ≡ map (naturalOf Second) lines ++ drop (p .third) b → c′ ≡ map (naturalOf Third) lines ++ drop (p .third) c
-    → (grReply (Read (p .second) (p .third)) ≡ grSays o) × (a′ ≡ row (naturalOf First) o a) × (b′ ≡ row (naturalOf Second) o b) × (c′ ≡ row (naturalOf Third) o c)
-unfolding grSays row
-gr-in o p lines a b c a′ b′ c′ e f g h = rw e (refl, f, g, h)
+  pub gr-in : (p : Numbers) (lines : List Numbers) (a b c : List ℕ) → readGr text tails heads weights ≡ read p lines
+      → a ≡ map (columnOf First) lines ++ drop (p .third) tails → b ≡ map (columnOf Second) lines ++ drop (p .third) heads
+      → c ≡ map (columnOf Third) lines ++ drop (p .third) weights → GrPromise text tails heads weights (GrRead (p .second) (p .third)) a b c
+  unfolding grSays row
+  gr-in p lines a b c e f g h = record { reply = rw e; tails-left = rw e f; heads-left = rw e g; weights-left = rw e h }
 
 -- ---- .co
 
@@ -83,15 +82,14 @@ module _ (text : List ℕ) (n : ℕ) (x y : List ℤ) where
   unfolding readCo onJudged
   co-text h i j = rw (le-leb _ _ h, i, j)
 
-pub co-out : (o : Outcome) (r : Refusal) (a b : List ℤ) → o ≡ refused r → (refusal r ≡ coSays o) × (a ≡ row (integerOf X) o a) × (b ≡ row (integerOf Y) o b)
-unfolding coSays row
-co-out o r a b e = rw e (refl, refl, refl)
+  pub co-out : (r : Refusal) → readCo text n x y ≡ refused r → CoPromise text n x y (CoRefused r) x y
+  unfolding coSays row
+  co-out r e = record { reply = rw e; x-left = rw e; y-left = rw e }
 
-pub co-in : (o : Outcome) (p : Numbers) (lines : List Numbers) (a b a′ b′ : List ℤ) → o ≡ read p lines
-    → a′ ≡ map (integerOf X) lines ++ drop (p .third) a → b′ ≡ map (integerOf Y) lines ++ drop (p .third) b
-    → (coReply Located ≡ coSays o) × (a′ ≡ row (integerOf X) o a) × (b′ ≡ row (integerOf Y) o b)
-unfolding coSays row
-co-in o p lines a b a′ b′ e f g = rw e (refl, f, g)
+  pub co-in : (p : Numbers) (lines : List Numbers) (a b : List ℤ) → readCo text n x y ≡ read p lines
+      → a ≡ map (axisOf X) lines ++ drop (p .third) x → b ≡ map (axisOf Y) lines ++ drop (p .third) y → CoPromise text n x y CoRead a b
+  unfolding coSays row
+  co-in p lines a b e f g = record { reply = rw e; x-left = rw e f; y-left = rw e g }
 
 -- ---- there is room
 

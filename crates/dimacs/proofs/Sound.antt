@@ -1,29 +1,27 @@
 -- What an accepted text's lines satisfy, for any format: limits, counts, and each node once. Assumes nothing.
 use mathlib.Core.Path.{_≡_, refl, sym, ap, _∙_}
 use mathlib.Core.List.{List, [], _∷_}
-use mathlib.Core.Bool.{Bool, true, false, cond, _&&_, not}
-use Prim.Native.Nat.{ℕ, zero, suc, _+_, _-_, _≤_, _<_}
+use mathlib.Core.Bool.{Bool, true, false, cond}
+use Prim.Native.Nat.{ℕ, _+_, _-_, _≤_, _<_}
 use native.Mathlib.Decide.{ℕ-discrete}
 use native.Mathlib.Omega.{arith}
 use lib.Dec.{eqb, leb}
 use lib.ListN.{length, getD, take, set, length-set, replicate, length-replicate}
 use lib.Seq.{getD-set-same, getD-set-other, getD-take, length-take-le}
 use borrow.Author.Tests.{leb-true, eqb-true, not-true}
-use Rattle.rules.specs.Judging.{passes}
-use Rattle.rules.specs.declared.Refusal.the-variants.{CountsDisagree}
 use Rattle.rules.specs.declared.Judged.{Judged}
 use Rattle.rules.specs.declared.Judged.the-variants.{Fine, Refused}
-use Rattle.scan.specs.Forms.{none}
+use Rattle.scan.specs.Fields.{none}
 use Rattle.scan.specs.Pieces.{linesOf}
-use Rattle.scan.specs.declared.form.Numbers.{Numbers}
-use Rattle.scan.specs.declared.form.Line.{Line}
-use Rattle.scan.specs.declared.form.Line.the-variants.{Comment, Problem, Data, Faulty}
+use Rattle.scan.specs.declared.fields.Numbers.{Numbers}
+use Rattle.scan.specs.declared.line.Line.{Line}
+use Rattle.scan.specs.declared.line.Line.the-variants.{Comment, Problem, Data, Faulty}
 use Rattle.dimacs.specs.Rules.{within}
 use Rattle.dimacs.specs.Gr.{grRules}
 use Rattle.dimacs.specs.Co.{coRules}
 use Rattle.dimacs.specs.Formats.{formatLine, rulesOf}
-use Rattle.dimacs.specs.Judgement.{again, judged, ended}
-use Rattle.dimacs.specs.Texts.{Outcome, read, refused, State, start, place, next, onJudged, readLines, readText}
+use Rattle.dimacs.specs.Judgement.{judged, ended}
+use Rattle.dimacs.specs.Texts.{Outcome, read, State, start, place, next, onJudged, readLines, readText}
 use Rattle.dimacs.specs.Fair.{Fair, FormatFair}
 use Rattle.dimacs.specs.declared.format.Rules.{Rules}
 use Rattle.dimacs.specs.declared.format.Format.{Format}

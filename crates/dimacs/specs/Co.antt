@@ -4,8 +4,8 @@ use mathlib.Core.List.{List}
 use mathlib.Core.Bool.{true}
 use Rattle.rules.specs.Limits.{mostNodes, leastCoordinate, mostCoordinate}
 use Rattle.scan.specs.Ascii.{bytes}
-use Rattle.scan.specs.Forms.{lineOf}
-use Rattle.scan.specs.declared.form.Line.{Line}
+use Rattle.scan.specs.Line.{lineOf}
+use Rattle.scan.specs.declared.line.Line.{Line}
 use Rattle.dimacs.specs.Rules.{naturals}
 use Rattle.dimacs.specs.declared.format.Rules.{Rules}
 

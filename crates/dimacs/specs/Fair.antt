@@ -1,9 +1,9 @@
 -- What holds of every format's rules, as the proofs need it. No public statement cites this. Assumes nothing: these are definitions.
-use Prim.Native.Nat.{ℕ, _≤_, _<_}
+use Prim.Native.Nat.{_≤_, _<_}
 use mathlib.Core.Path.{_≡_}
 use mathlib.Core.Bool.{true}
 use lib.IntN.{ℤ, pos, negsuc}
-use Rattle.scan.specs.declared.form.Numbers.{Numbers}
+use Rattle.scan.specs.declared.fields.Numbers.{Numbers}
 use Rattle.dimacs.specs.declared.format.Limits.{Limits}
 use Rattle.dimacs.specs.declared.format.Rules.{Rules}
 use Rattle.dimacs.specs.declared.format.Format.{Format}

@@ -1,8 +1,8 @@
 -- The formats. A further one adds its forms and its rules here. Assumes nothing: these are definitions.
 use Prim.Native.Nat.{ℕ}
 use mathlib.Core.List.{List}
-use Rattle.scan.specs.declared.form.Line.{Line}
-use Rattle.scan.specs.declared.form.Numbers.{Numbers}
+use Rattle.scan.specs.declared.line.Line.{Line}
+use Rattle.scan.specs.declared.fields.Numbers.{Numbers}
 use Rattle.dimacs.specs.Gr.{grLine, grRules}
 use Rattle.dimacs.specs.Co.{coLine, coRules}
 use Rattle.dimacs.specs.declared.format.Format.{Format}

@@ -1,19 +1,19 @@
 -- The judgement of a line, in the paper's order: 3, 4, 5, 7, 6. Assumes nothing: these are definitions.
 use Prim.Native.Nat.{ℕ, _-_}
 use mathlib.Core.List.{List, [], _∷_}
-use mathlib.Core.Bool.{Bool, true, false, cond, _&&_, not}
+use mathlib.Core.Bool.{Bool, false, _&&_, not}
 use lib.Dec.{eqb, leb, ltb}
 use lib.ListN.{getD}
 use Rattle.rules.specs.Judging.{inTurn, passes}
 use Rattle.rules.specs.declared.Refusal.the-variants.{NoForm, OutOfOrder, BeyondLimits, CountsDisagree, NodeAgain}
 use Rattle.rules.specs.declared.Judged.{Judged}
 use Rattle.rules.specs.declared.Judged.the-variants.{Fine, Refused}
-use Rattle.scan.specs.declared.form.Numbers.{Numbers}
-use Rattle.scan.specs.declared.form.Line.{Line}
-use Rattle.scan.specs.declared.form.Line.the-variants.{Comment, Problem, Data, Faulty}
+use Rattle.scan.specs.declared.fields.Numbers.{Numbers}
+use Rattle.scan.specs.declared.line.Line.{Line}
+use Rattle.scan.specs.declared.line.Line.the-variants.{Comment, Problem, Data, Faulty}
 use Rattle.dimacs.specs.Rules.{within}
 use Rattle.dimacs.specs.declared.format.Rules.{Rules}
-use Rattle.dimacs.specs.declared.sheet.Head.{Head}
+use Rattle.dimacs.specs.declared.judge.Head.{Head}
 
 -- a problem line, at line k: a second one is 4, limits are 5, counts that disagree 6
 unfoldable pub problemJudged : Rules → Head → ℕ → Numbers → Judged

@@ -8,3 +8,4 @@ pub mod Texts
 pub mod Rows
 pub mod Reading
 pub mod Accepted
+pub mod Promise

@@ -1,7 +1,7 @@
 -- The readers: what is judged before the first line, the text, and what the paper is told. Assumes nothing: these are definitions.
 use Prim.Native.Nat.{ℕ}
 use mathlib.Core.List.{List, [], _∷_}
-use mathlib.Core.Bool.{Bool, _&&_}
+use mathlib.Core.Bool.{_&&_}
 use lib.Dec.{leb}
 use lib.IntN.{ℤ}
 use lib.ListN.{length}
@@ -12,19 +12,19 @@ use Rattle.rules.specs.declared.Refusal.the-variants.{TextTooLong, RowTooShort,
 use Rattle.dimacs.specs.Texts.{Outcome, read, refused, onJudged, readText}
 use Rattle.dimacs.specs.declared.format.Format.the-variants.{Graph, Coordinates}
 use Rattle.dimacs.specs.declared.GrReply.{GrReply}
-use Rattle.dimacs.specs.declared.GrReply.the-variants.{Read, Refused}
+use Rattle.dimacs.specs.declared.GrReply.the-variants.{Read as GrRead, Refused as GrRefused}
 use Rattle.dimacs.specs.declared.CoReply.{CoReply}
-use Rattle.dimacs.specs.declared.CoReply.the-variants.{Located, Unlocated}
+use Rattle.dimacs.specs.declared.CoReply.the-variants.{Read as CoRead, Refused as CoRefused}
 
 -- ---- the paper's reply of each answer
 
 abbrev pub grReply : GrReply → Reply
-grReply (Read n m) = accepted (n ∷ m ∷ [])
-grReply (Refused r) = refusal r
+grReply (GrRead n m) = accepted (n ∷ m ∷ [])
+grReply (GrRefused r) = refusal r
 
 abbrev pub coReply : CoReply → Reply
-coReply Located = accepted []
-coReply (Unlocated r) = refusal r
+coReply CoRead = accepted []
+coReply (CoRefused r) = refusal r
 
 -- ---- .gr: 1, 2, then the lines
 

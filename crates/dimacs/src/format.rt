@@ -1,7 +1,7 @@
 // What each format says of its lines: their forms, and the limits of the numbers on them.
-use scan::form::Line;
-use scan::form::Numbers;
-use scan::form::read_line;
+use scan::fields::Numbers;
+use scan::line::Line;
+use scan::line::read_line;
 ghost use mathlib.Core.Path.{_≡_};
 ghost use Rattle.scan.specs.Held.{heldLine};
 ghost use Rattle.dimacs.specs.Rules.{naturals, noneAbove, within};
@@ -37,14 +37,24 @@ pub struct Rules {
 fn naturals_of(first: u32, second: u32, third: u32) -> Numbers
     ensures { λ r. ⌜ r ≡ naturals first second third ⌝ }
 {
-    Numbers { first, second, third, x: 0, y: 0 }
+    Numbers {
+        first,
+        second,
+        third,
+        x: 0,
+        y: 0,
+    }
 }
 
 // Whether each number of a is at most its fellow of b.
 fn none_above(a: Numbers, b: Numbers) -> bool
     ensures { λ r. ⌜ r ≡ noneAbove a b ⌝ }
 {
-    (a.first <= b.first) & (a.second <= b.second) & (a.third <= b.third) & (a.x <= b.x) & (a.y <= b.y)
+    (a.first <= b.first)
+        & (a.second <= b.second)
+        & (a.third <= b.third)
+        & (a.x <= b.x)
+        & (a.y <= b.y)
 }
 
 // Whether each number of a line is within its limits.
@@ -61,10 +71,16 @@ fn rules_gr(n: u32) -> Rules
     ensures { λ r. ⌜ r ≡ grRules n ⌝ }
 {
     Rules {
-        problem: Limits { least: naturals_of(0, 1, 0), most: naturals_of(0, rules::NODES, rules::ARCS) },
+        problem: Limits {
+            least: naturals_of(0, 1, 0),
+            most: naturals_of(0, rules::NODES, rules::ARCS),
+        },
         fewest: 0,
         most: rules::ARCS,
-        entries: Limits { least: naturals_of(1, 1, 0), most: naturals_of(n, n, rules::WEIGHT) },
+        entries: Limits {
+            least: naturals_of(1, 1, 0),
+            most: naturals_of(n, n, rules::WEIGHT),
+        },
         once: false,
     }
 }
@@ -74,12 +90,27 @@ fn rules_co(n: u32) -> Rules
     ensures { λ r. ⌜ r ≡ coRules n ⌝ }
 {
     Rules {
-        problem: Limits { least: naturals_of(0, 0, 1), most: naturals_of(0, 0, rules::NODES) },
+        problem: Limits {
+            least: naturals_of(0, 0, 1),
+            most: naturals_of(0, 0, rules::NODES),
+        },
         fewest: n,
         most: n,
         entries: Limits {
-            least: Numbers { first: 0, second: 0, third: 1, x: -1000000, y: -1000000 },
-            most: Numbers { first: 0, second: 0, third: n, x: rules::COORDINATE, y: rules::COORDINATE },
+            least: Numbers {
+                first: 0,
+                second: 0,
+                third: 1,
+                x: rules::LEAST_COORDINATE,
+                y: rules::LEAST_COORDINATE,
+            },
+            most: Numbers {
+                first: 0,
+                second: 0,
+                third: n,
+                x: rules::MOST_COORDINATE,
+                y: rules::MOST_COORDINATE,
+            },
         },
         once: true,
     }
@@ -97,7 +128,7 @@ pub fn rules_for(format: Format, problem: Numbers) -> Rules
 
 // What a line is.
 pub fn line_of(format: Format, s: &[u8]) -> Line
-    ensures { λ r. ⌜ heldLine r ≡ heldLine (formatLine format (now (s .entry))) ⌝ }
+    ensures { λ r. ⌜ r ≡ heldLine (formatLine format (now (s .entry))) ⌝ }
 {
     match format {
         Format::Graph => read_line(s, b"p sp N M", b"a U V W"),

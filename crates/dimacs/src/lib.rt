@@ -1,5 +1,6 @@
 // The text formats of the 9th DIMACS Implementation Challenge: a text becomes rows, or gets its numbered refusal.
 pub mod format;
+pub mod judge;
 pub mod rows;
 pub mod sheet;
 
@@ -11,11 +12,7 @@ use rows::put_naturals;
 use rules::Judged;
 use rules::Refusal;
 use sheet::read_sheet;
-ghost use mathlib.Core.Path.{_≡_};
-ghost use Rattle.dimacs.specs.declared.rows.Column.the-variants.{First, Second, Third};
-ghost use Rattle.dimacs.specs.declared.rows.Axis.the-variants.{X, Y};
-ghost use Rattle.dimacs.specs.Rows.{naturalOf, integerOf, row};
-ghost use Rattle.dimacs.specs.Reading.{grReply, coReply, readGr, grSays, readCo, coSays};
+ghost use Rattle.dimacs.specs.Promise.{GrPromise, CoPromise};
 
 // A graph file is read, with n and m, or refused.
 pub enum GrReply {
@@ -25,17 +22,14 @@ pub enum GrReply {
 
 // A coordinate file is read, or refused.
 pub enum CoReply {
-    Located,
-    Unlocated(Refusal),
+    Read,
+    Refused(Refusal),
 }
 
 // Reads a graph file into three rows of at least 2,048 places.
 pub fn read_gr(text: &[u8], tails: &mut [u32], heads: &mut [u32], weights: &mut [u32]) -> GrReply
-    ensures { λ r. let o = readGr (now (text .entry)) (now (tails .entry)) (now (heads .entry)) (now (weights .entry)) in
-        ⌜ (grReply r ≡ grSays o)
-        × (now (tails .exit) ≡ row (naturalOf First) o (now (tails .entry)))
-        × (now (heads .exit) ≡ row (naturalOf Second) o (now (heads .entry)))
-        × (now (weights .exit) ≡ row (naturalOf Third) o (now (weights .entry))) ⌝ }
+    ensures { λ r. ⌜ GrPromise (now (text .entry)) (now (tails .entry)) (now (heads .entry)) (now (weights .entry))
+        r (now (tails .exit)) (now (heads .exit)) (now (weights .exit)) ⌝ }
 {
     if rules::TEXT < text.len() {
         return GrReply::Refused(Refusal::TextTooLong);
@@ -59,19 +53,16 @@ pub fn read_gr(text: &[u8], tails: &mut [u32], heads: &mut [u32], weights: &mut 
 
 // Reads a coordinate file for a graph of n nodes into two rows of at least 512 places.
 pub fn read_co(text: &[u8], n: u32, x: &mut [i32], y: &mut [i32]) -> CoReply
-    ensures { λ r. let o = readCo (now (text .entry)) n (now (x .entry)) (now (y .entry)) in
-        ⌜ (coReply r ≡ coSays o)
-        × (now (x .exit) ≡ row (integerOf X) o (now (x .entry)))
-        × (now (y .exit) ≡ row (integerOf Y) o (now (y .entry))) ⌝ }
+    ensures { λ r. ⌜ CoPromise (now (text .entry)) n (now (x .entry)) (now (y .entry)) r (now (x .exit)) (now (y .exit)) ⌝ }
 {
     if rules::TEXT < text.len() {
-        return CoReply::Unlocated(Refusal::TextTooLong);
+        return CoReply::Refused(Refusal::TextTooLong);
     }
     if !((512 <= x.len()) & (512 <= y.len())) {
-        return CoReply::Unlocated(Refusal::RowTooShort);
+        return CoReply::Refused(Refusal::RowTooShort);
     }
     if !((1 <= n) & (n <= rules::NODES)) {
-        return CoReply::Unlocated(Refusal::BeyondLimits { line: 0 });
+        return CoReply::Refused(Refusal::BeyondLimits { line: 0 });
     }
     let sheet = read_sheet(text, Format::Coordinates(n));
     let judged = sheet.judged;
@@ -80,7 +71,7 @@ pub fn read_co(text: &[u8], n: u32, x: &mut [i32], y: &mut [i32]) -> CoReply
         let m = sheet.problem.third;
         put_integers(lines, Axis::X, m as usize, x);
         put_integers(lines, Axis::Y, m as usize, y);
-        return CoReply::Located;
+        return CoReply::Read;
     };
-    CoReply::Unlocated(refusal)
+    CoReply::Refused(refusal)
 }

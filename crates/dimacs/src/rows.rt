@@ -1,10 +1,10 @@
 // Numbers of data lines, put into rows that are lent.
-use scan::form::Numbers;
+use scan::fields::Numbers;
 ghost use mathlib.Core.Path.{_≡_};
 ghost use mathlib.Core.List.{_++_, map};
 ghost use Prim.Native.Nat.{_≤_};
 ghost use lib.ListN.{length, take, drop};
-ghost use Rattle.dimacs.specs.Rows.{naturalOf, integerOf};
+ghost use Rattle.dimacs.specs.Rows.{columnOf, axisOf};
 
 // Which number of a line.
 pub enum Column {
@@ -19,7 +19,7 @@ pub enum Axis {
 }
 
 fn natural(ns: Numbers, column: Column) -> u32
-    ensures { λ r. ⌜ r ≡ naturalOf column ns ⌝ }
+    ensures { λ r. ⌜ r ≡ columnOf column ns ⌝ }
 {
     match column {
         Column::First => ns.first,
@@ -29,7 +29,7 @@ fn natural(ns: Numbers, column: Column) -> u32
 }
 
 fn integer(ns: Numbers, axis: Axis) -> i32
-    ensures { λ r. ⌜ r ≡ integerOf axis ns ⌝ }
+    ensures { λ r. ⌜ r ≡ axisOf axis ns ⌝ }
 {
     match axis {
         Axis::X => ns.x,
@@ -40,7 +40,7 @@ fn integer(ns: Numbers, axis: Axis) -> i32
 // One number of each of the first m lines goes to the front of the row; the rest of it stays.
 pub fn put_naturals(lines: [Numbers; 2048], column: Column, m: usize, row: &mut [u32])
     requires { ⌜ (m ≤ 2048) × (m ≤ length (now row)) ⌝ }
-    ensures { λ _. ⌜ now (row .exit) ≡ map (naturalOf column) (take m lines) ++ drop m (now (row .entry)) ⌝ }
+    ensures { λ _. ⌜ now (row .exit) ≡ map (columnOf column) (take m lines) ++ drop m (now (row .entry)) ⌝ }
 {
     let mut i = 0;
     while i < m {
@@ -50,12 +50,13 @@ pub fn put_naturals(lines: [Numbers; 2048], column: Column, m: usize, row: &mut 
     }
 }
 
-pub fn put_integers(lines: [Numbers; 2048], axis: Axis, m: usize, row: &mut [i32])
-    requires { ⌜ (m ≤ 2048) × (m ≤ length (now row)) ⌝ }
-    ensures { λ _. ⌜ now (row .exit) ≡ map (integerOf axis) (take m lines) ++ drop m (now (row .entry)) ⌝ }
+// The same for numbers that may have a minus.
+pub fn put_integers(lines: [Numbers; 2048], axis: Axis, n: usize, row: &mut [i32])
+    requires { ⌜ (n ≤ 2048) × (n ≤ length (now row)) ⌝ }
+    ensures { λ _. ⌜ now (row .exit) ≡ map (axisOf axis) (take n lines) ++ drop n (now (row .entry)) ⌝ }
 {
     let mut i = 0;
-    while i < m {
+    while i < n {
         let ns = lines[i];
         let z = integer(ns, axis);
         row[i] = z;

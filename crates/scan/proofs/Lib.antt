@@ -1,3 +1,4 @@
-pub mod PieceLaws
+mod FieldLaws
+mod LineLaws
 mod NumberLaws
-mod FormLaws
+pub mod PieceLaws

@@ -6,13 +6,13 @@ use Rattle.scan.specs.declared.numbers.Natural.{Natural}
 use Rattle.scan.specs.declared.numbers.Natural.the-variants.{Number, NoNumber}
 use Rattle.scan.specs.declared.numbers.Integer.{Integer}
 use Rattle.scan.specs.declared.numbers.Integer.the-variants.{Whole, NoWhole}
-use Rattle.scan.specs.declared.form.Numbers.{Numbers}
-use Rattle.scan.specs.declared.form.Field.{Field}
-use Rattle.scan.specs.declared.form.Field.the-variants.{Taken, NotTaken}
-use Rattle.scan.specs.declared.form.Fields.{Fields}
-use Rattle.scan.specs.declared.form.Fields.the-variants.{Read, Unread}
-use Rattle.scan.specs.declared.form.Line.{Line}
-use Rattle.scan.specs.declared.form.Line.the-variants.{Comment, Problem, Data, Faulty}
+use Rattle.scan.specs.declared.fields.Numbers.{Numbers}
+use Rattle.scan.specs.declared.fields.Field.{Field}
+use Rattle.scan.specs.declared.fields.Field.the-variants.{Taken, NotTaken}
+use Rattle.scan.specs.declared.fields.Fields.{Fields}
+use Rattle.scan.specs.declared.fields.Fields.the-variants.{Read, Unread}
+use Rattle.scan.specs.declared.line.Line.{Line}
+use Rattle.scan.specs.declared.line.Line.the-variants.{Comment, Problem, Data, Faulty}
 
 unfoldable pub held : ℕ → ℕ
 held v = min v 10_000_000

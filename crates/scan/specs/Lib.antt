@@ -1,5 +1,6 @@
 pub mod Ascii
 pub mod Pieces
 pub mod Numbers
-pub mod Forms
+pub mod Fields
+pub mod Line
 pub mod Held

@@ -1,4 +1,5 @@
 // The spelling that the text formats share: pieces of a text, numbers, and the forms of a line.
-pub mod form;
+pub mod fields;
+pub mod line;
 pub mod numbers;
 pub mod pieces;

@@ -1,4 +1,4 @@
-use mathlib.Core.Path.{_≡_, sym, _∙_}
+use mathlib.Core.Path.{_∙_}
 use native.Mathlib.Omega.{arith}
 use borrow.Author.Tests.{not-true, not-false}
 use lib.ListN.{length}
@@ -7,22 +7,21 @@ use Rattle.dimacs.proofs.Replies.{fine-outcome, refused-outcome, co-too
 use borrow.Author.Needs.{needs}
 use Rattle.dimacs.proofs.read_co.Statement.{statement}
 use Rattle.dimacs.proofs.read_co.Tie as tie
-use Rattle.dimacs.proofs.read_co.Reads as reads
-use Rattle.dimacs.proofs.read_co.Lts as lts
-use Rattle.dimacs.proofs.rows.put_integers.Reads as put-integers-reads
-use Rattle.dimacs.proofs.sheet.read_sheet.Reads as read-sheet-reads
 
 returns : tie.Need-returns
 returns c =
-    co-out _ _ _ _ (co-too-long (c .before .before .args .text .now) (c .before .before .args .n) (c .before .before .args .x .now) (c .before .before .args .y .now) (c .if1 .taken))
+    let args = c .before .before .args in
+    co-out _ _ _ _ _ (co-too-long (args .text .now) (args .n) (args .x .now) (args .y .now) (c .if1 .taken))
 
 returns-2 : tie.Need-returns-2
 returns-2 c =
-    co-out _ _ _ _ (co-too-short (c .before .before .before .args .text .now) (c .before .before .before .args .n) (c .before .before .before .args .x .now) (c .before .before .before .args .y .now) (c .before .if1 .left) (not-true _ (c .if2 .taken)))
+    let args = c .before .before .before .args in
+    co-out _ _ _ _ _ (co-too-short (args .text .now) (args .n) (args .x .now) (args .y .now) (c .before .if1 .left) (not-true _ (c .if2 .taken)))
 
 returns-3 : tie.Need-returns-3
 returns-3 c =
-    co-out _ _ _ _ (co-beyond (c .before .before .before .before .args .text .now) (c .before .before .before .before .args .n) (c .before .before .before .before .args .x .now) (c .before .before .before .before .args .y .now) (c .before .before .if1 .left) (not-false _ (c .before .if2 .left)) (not-true _ (c .if3 .taken)))
+    let args = c .before .before .before .before .args in
+    co-out _ _ _ _ _ (co-beyond (args .text .now) (args .n) (args .x .now) (args .y .now) (c .before .before .if1 .left) (not-false _ (c .before .if2 .left)) (not-true _ (c .if3 .taken)))
 
 read-sheet-requires : tie.Need-read-sheet-requires
 read-sheet-requires c κs =
@@ -40,9 +39,10 @@ cast-put-integers c = search needs
 
 put-integers-requires : tie.Need-put-integers-requires
 put-integers-requires c κs =
-    let nodes = two-tests 1 (c .before .before .before .before .before .before .before .before .before .args .n) (c .before .before .before .before .before .before .before .before .before .args .n) 512 (not-false _ (c .before .before .before .before .before .if3 .left)) in
-    let count = co-count (c .before .before .before .before .before .before .before .before .before .args .n) (c .before .before .before .before .before .before .before .before .before .args .text .now) _ _ (nodes .1) (fine-outcome _ _ _ (c .before .before .before .before .read-sheet .ensures) (c .before .before .enum-told .given .1)) in
-    let room = two-tests 512 (length (c .before .before .before .before .before .before .before .before .before .args .x .now)) 512 (length (c .before .before .before .before .before .before .before .before .before .args .y .now)) (not-false _ (c .before .before .before .before .before .before .if2 .left)) in
+    let args = c .before .before .before .before .before .before .before .before .before .args in
+    let nodes = two-tests 1 (args .n) (args .n) 512 (not-false _ (c .before .before .before .before .before .if3 .left)) in
+    let count = co-count (args .n) (args .text .now) _ _ (nodes .1) (fine-outcome _ _ _ (c .before .before .before .before .read-sheet .ensures) (c .before .before .enum-told .given .1)) in
+    let room = two-tests 512 (length (args .x .now)) 512 (length (args .y .now)) (not-false _ (c .before .before .before .before .before .before .if2 .left)) in
     omega arith
 
 cast-put-integers-2 : tie.Need-cast-put-integers-2
@@ -50,9 +50,10 @@ cast-put-integers-2 c = search needs
 
 put-integers-requires-2 : tie.Need-put-integers-requires-2
 put-integers-requires-2 c κs =
-    let nodes = two-tests 1 (c .before .before .before .before .before .before .before .before .before .before .before .before .args .n) (c .before .before .before .before .before .before .before .before .before .before .before .before .args .n) 512 (not-false _ (c .before .before .before .before .before .before .before .before .if3 .left)) in
-    let count = co-count (c .before .before .before .before .before .before .before .before .before .before .before .before .args .n) (c .before .before .before .before .before .before .before .before .before .before .before .before .args .text .now) _ _ (nodes .1) (fine-outcome _ _ _ (c .before .before .before .before .before .before .before .read-sheet .ensures) (c .before .before .before .before .before .enum-told .given .1)) in
-    let room = two-tests 512 (length (c .before .before .before .before .before .before .before .before .before .before .before .before .args .x .now)) 512 (length (c .before .before .before .before .before .before .before .before .before .before .before .before .args .y .now)) (not-false _ (c .before .before .before .before .before .before .before .before .before .if2 .left)) in
+    let args = c .before .before .before .before .before .before .before .before .before .before .before .before .args in
+    let nodes = two-tests 1 (args .n) (args .n) 512 (not-false _ (c .before .before .before .before .before .before .before .before .if3 .left)) in
+    let count = co-count (args .n) (args .text .now) _ _ (nodes .1) (fine-outcome _ _ _ (c .before .before .before .before .before .before .before .read-sheet .ensures) (c .before .before .before .before .before .enum-told .given .1)) in
+    let room = two-tests 512 (length (args .x .now)) 512 (length (args .y .now)) (not-false _ (c .before .before .before .before .before .before .before .before .before .if2 .left)) in
     omega arith
 
 same-length : tie.Need-same-length
@@ -63,12 +64,16 @@ same-length-2 c = search needs
 
 returns-4 : tie.Need-returns-4
 returns-4 c =
-    co-in _ _ _ _ _ _ _ (co-text (c .before .before .before .before .before .before .before .before .before .before .before .before .before .before .args .text .now) (c .before .before .before .before .before .before .before .before .before .before .before .before .before .before .args .n) (c .before .before .before .before .before .before .before .before .before .before .before .before .before .before .args .x .now) (c .before .before .before .before .before .before .before .before .before .before .before .before .before .before .args .y .now) (c .before .before .before .before .before .before .before .before .before .before .before .before .if1 .left) (not-false _ (c .before .before .before .before .before .before .before .before .before .before .before .if2 .left)) (not-false _ (c .before .before .before .before .before .before .before .before .before .before .if3 .left)) ∙ fine-outcome _ _ _ (c .before .before .before .before .before .before .before .before .before .read-sheet .ensures) (c .before .before .before .before .before .before .before .enum-told .given .1))
+    let args = c .before .before .before .before .before .before .before .before .before .before .before .before .before .before .args in
+    let is-text = co-text (args .text .now) (args .n) (args .x .now) (args .y .now) (c .before .before .before .before .before .before .before .before .before .before .before .before .if1 .left) (not-false _ (c .before .before .before .before .before .before .before .before .before .before .before .if2 .left)) (not-false _ (c .before .before .before .before .before .before .before .before .before .before .if3 .left)) in
+    co-in _ _ _ _ _ _ _ _ (is-text ∙ fine-outcome _ _ _ (c .before .before .before .before .before .before .before .before .before .read-sheet .ensures) (c .before .before .before .before .before .before .before .enum-told .given .1))
     (c .before .before .before .before .put-integers .ensures) (c .before .put-integers2 .ensures)
 
 returns-5 : tie.Need-returns-5
 returns-5 c =
-    co-out _ _ _ _ (co-text (c .before .before .before .before .before .before .before .before .args .text .now) (c .before .before .before .before .before .before .before .before .args .n) (c .before .before .before .before .before .before .before .before .args .x .now) (c .before .before .before .before .before .before .before .before .args .y .now) (c .before .before .before .before .before .before .if1 .left) (not-false _ (c .before .before .before .before .before .if2 .left)) (not-false _ (c .before .before .before .before .if3 .left)) ∙ refused-outcome _ _ _ _ (c .before .before .before .read-sheet .ensures) (c .before .judged .given .1))
+    let args = c .before .before .before .before .before .before .before .before .args in
+    let is-text = co-text (args .text .now) (args .n) (args .x .now) (args .y .now) (c .before .before .before .before .before .before .if1 .left) (not-false _ (c .before .before .before .before .before .if2 .left)) (not-false _ (c .before .before .before .before .if3 .left)) in
+    co-out _ _ _ _ _ (is-text ∙ refused-outcome _ _ _ _ (c .before .before .before .read-sheet .ensures) (c .before .judged .given .1))
 
 pub read-co-spec : {M : Type 1} → statement M
 read-co-spec =

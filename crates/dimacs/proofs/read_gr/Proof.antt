@@ -1,4 +1,4 @@
-use mathlib.Core.Path.{_≡_, sym, _∙_}
+use mathlib.Core.Path.{_∙_}
 use native.Mathlib.Omega.{arith}
 use borrow.Author.Tests.{not-true, not-false}
 use Rattle.dimacs.proofs.Accepted.{gr-count}
@@ -6,18 +6,16 @@ use Rattle.dimacs.proofs.Replies.{fine-outcome, refused-outcome, gr-too
 use borrow.Author.Needs.{needs}
 use Rattle.dimacs.proofs.read_gr.Statement.{statement}
 use Rattle.dimacs.proofs.read_gr.Tie as tie
-use Rattle.dimacs.proofs.read_gr.Reads as reads
-use Rattle.dimacs.proofs.read_gr.Lts as lts
-use Rattle.dimacs.proofs.rows.put_naturals.Reads as put-naturals-reads
-use Rattle.dimacs.proofs.sheet.read_sheet.Reads as read-sheet-reads
 
 returns : tie.Need-returns
 returns c =
-    gr-out _ _ _ _ _ (gr-too-long (c .before .before .before .before .before .args .text .now) (c .before .before .before .before .before .args .tails .now) (c .before .before .before .before .before .args .heads .now) (c .before .before .before .before .before .args .weights .now) (c .if1 .taken))
+    let args = c .before .before .before .before .before .args in
+    gr-out _ _ _ _ _ (gr-too-long (args .text .now) (args .tails .now) (args .heads .now) (args .weights .now) (c .if1 .taken))
 
 returns-2 : tie.Need-returns-2
 returns-2 c =
-    gr-out _ _ _ _ _ (gr-too-short (c .before .before .before .before .before .before .args .text .now) (c .before .before .before .before .before .before .args .tails .now) (c .before .before .before .before .before .before .args .heads .now) (c .before .before .before .before .before .before .args .weights .now) (c .before .if1 .left) (not-true _ (c .if2 .taken)))
+    let args = c .before .before .before .before .before .before .args in
+    gr-out _ _ _ _ _ (gr-too-short (args .text .now) (args .tails .now) (args .heads .now) (args .weights .now) (c .before .if1 .left) (not-true _ (c .if2 .taken)))
 
 read-sheet-requires : tie.Need-read-sheet-requires
 read-sheet-requires c κs = search needs
@@ -33,8 +31,9 @@ cast-put-naturals c = search needs
 
 put-naturals-requires : tie.Need-put-naturals-requires
 put-naturals-requires c κs =
-    let count = gr-count (c .before .before .before .before .before .before .before .before .before .before .before .args .text .now) _ _ (fine-outcome _ _ _ (c .before .before .before .before .read-sheet .ensures) (c .before .before .enum-told .given .1)) in
-    let room = gr-room (c .before .before .before .before .before .before .before .before .before .before .before .args .tails .now) (c .before .before .before .before .before .before .before .before .before .before .before .args .heads .now) (c .before .before .before .before .before .before .before .before .before .before .before .args .weights .now) (not-false _ (c .before .before .before .before .before .if2 .left)) in
+    let args = c .before .before .before .before .before .before .before .before .before .before .before .args in
+    let count = gr-count (args .text .now) _ _ (fine-outcome _ _ _ (c .before .before .before .before .read-sheet .ensures) (c .before .before .enum-told .given .1)) in
+    let room = gr-room (args .tails .now) (args .heads .now) (args .weights .now) (not-false _ (c .before .before .before .before .before .if2 .left)) in
     omega arith
 
 cast-put-naturals-2 : tie.Need-cast-put-naturals-2
@@ -42,8 +41,9 @@ cast-put-naturals-2 c = search needs
 
 put-naturals-requires-2 : tie.Need-put-naturals-requires-2
 put-naturals-requires-2 c κs =
-    let count = gr-count (c .before .before .before .before .before .before .before .before .before .before .before .before .before .before .before .args .text .now) _ _ (fine-outcome _ _ _ (c .before .before .before .before .before .before .before .before .read-sheet .ensures) (c .before .before .before .before .before .before .enum-told .given .1)) in
-    let room = gr-room (c .before .before .before .before .before .before .before .before .before .before .before .before .before .before .before .args .tails .now) (c .before .before .before .before .before .before .before .before .before .before .before .before .before .before .before .args .heads .now) (c .before .before .before .before .before .before .before .before .before .before .before .before .before .before .before .args .weights .now) (not-false _ (c .before .before .before .before .before .before .before .before .before .if2 .left)) in
+    let args = c .before .before .before .before .before .before .before .before .before .before .before .before .before .before .before .args in
+    let count = gr-count (args .text .now) _ _ (fine-outcome _ _ _ (c .before .before .before .before .before .before .before .before .read-sheet .ensures) (c .before .before .before .before .before .before .enum-told .given .1)) in
+    let room = gr-room (args .tails .now) (args .heads .now) (args .weights .now) (not-false _ (c .before .before .before .before .before .before .before .before .before .if2 .left)) in
     omega arith
 
 cast-put-naturals-3 : tie.Need-cast-put-naturals-3
@@ -51,8 +51,9 @@ cast-put-naturals-3 c = search needs
 
 put-naturals-requires-3 : tie.Need-put-naturals-requires-3
 put-naturals-requires-3 c κs =
-    let count = gr-count (c .before .before .before .before .before .before .before .before .before .before .before .before .before .before .before .before .before .before .before .args .text .now) _ _ (fine-outcome _ _ _ (c .before .before .before .before .before .before .before .before .before .before .before .before .read-sheet .ensures) (c .before .before .before .before .before .before .before .before .before .before .enum-told .given .1)) in
-    let room = gr-room (c .before .before .before .before .before .before .before .before .before .before .before .before .before .before .before .before .before .before .before .args .tails .now) (c .before .before .before .before .before .before .before .before .before .before .before .before .before .before .before .before .before .before .before .args .heads .now) (c .before .before .before .before .before .before .before .before .before .before .before .before .before .before .before .before .before .before .before .args .weights .now) (not-false _ (c .before .before .before .before .before .before .before .before .before .before .before .before .before .if2 .left)) in
+    let args = c .before .before .before .before .before .before .before .before .before .before .before .before .before .before .before .before .before .before .before .args in
+    let count = gr-count (args .text .now) _ _ (fine-outcome _ _ _ (c .before .before .before .before .before .before .before .before .before .before .before .before .read-sheet .ensures) (c .before .before .before .before .before .before .before .before .before .before .enum-told .given .1)) in
+    let room = gr-room (args .tails .now) (args .heads .now) (args .weights .now) (not-false _ (c .before .before .before .before .before .before .before .before .before .before .before .before .before .if2 .left)) in
     omega arith
 
 same-length : tie.Need-same-length
@@ -66,12 +67,16 @@ same-length-3 c = search needs
 
 returns-3 : tie.Need-returns-3
 returns-3 c =
-    gr-in _ _ _ _ _ _ _ _ _ (gr-text (c .before .before .before .before .before .before .before .before .before .before .before .before .before .before .before .before .before .before .before .before .before .before .args .text .now) (c .before .before .before .before .before .before .before .before .before .before .before .before .before .before .before .before .before .before .before .before .before .before .args .tails .now) (c .before .before .before .before .before .before .before .before .before .before .before .before .before .before .before .before .before .before .before .before .before .before .args .heads .now) (c .before .before .before .before .before .before .before .before .before .before .before .before .before .before .before .before .before .before .before .before .before .before .args .weights .now) (c .before .before .before .before .before .before .before .before .before .before .before .before .before .before .before .before .before .if1 .left) (not-false _ (c .before .before .before .before .before .before .before .before .before .before .before .before .before .before .before .before .if2 .left)) ∙ fine-outcome _ _ _ (c .before .before .before .before .before .before .before .before .before .before .before .before .before .before .before .read-sheet .ensures) (c .before .before .before .before .before .before .before .before .before .before .before .before .before .enum-told .given .1))
+    let args = c .before .before .before .before .before .before .before .before .before .before .before .before .before .before .before .before .before .before .before .before .before .before .args in
+    let is-text = gr-text (args .text .now) (args .tails .now) (args .heads .now) (args .weights .now) (c .before .before .before .before .before .before .before .before .before .before .before .before .before .before .before .before .before .if1 .left) (not-false _ (c .before .before .before .before .before .before .before .before .before .before .before .before .before .before .before .before .if2 .left)) in
+    gr-in _ _ _ _ _ _ _ _ _ (is-text ∙ fine-outcome _ _ _ (c .before .before .before .before .before .before .before .before .before .before .before .before .before .before .before .read-sheet .ensures) (c .before .before .before .before .before .before .before .before .before .before .before .before .before .enum-told .given .1))
     (c .before .before .before .before .before .before .before .before .before .before .put-naturals .ensures) (c .before .before .before .before .before .before .put-naturals2 .ensures) (c .before .before .put-naturals3 .ensures)
 
 returns-4 : tie.Need-returns-4
 returns-4 c =
-    gr-out _ _ _ _ _ (gr-text (c .before .before .before .before .before .before .before .before .before .before .args .text .now) (c .before .before .before .before .before .before .before .before .before .before .args .tails .now) (c .before .before .before .before .before .before .before .before .before .before .args .heads .now) (c .before .before .before .before .before .before .before .before .before .before .args .weights .now) (c .before .before .before .before .before .if1 .left) (not-false _ (c .before .before .before .before .if2 .left)) ∙ refused-outcome _ _ _ _ (c .before .before .before .read-sheet .ensures) (c .before .judged .given .1))
+    let args = c .before .before .before .before .before .before .before .before .before .before .args in
+    let is-text = gr-text (args .text .now) (args .tails .now) (args .heads .now) (args .weights .now) (c .before .before .before .before .before .if1 .left) (not-false _ (c .before .before .before .before .if2 .left)) in
+    gr-out _ _ _ _ _ (is-text ∙ refused-outcome _ _ _ _ (c .before .before .before .read-sheet .ensures) (c .before .judged .given .1))
 
 pub read-gr-spec : {M : Type 1} → statement M
 read-gr-spec =

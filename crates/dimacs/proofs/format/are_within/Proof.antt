@@ -2,9 +2,6 @@ use Rattle.dimacs.specs.Rules.{within}
 use borrow.Author.Needs.{needs}
 use Rattle.dimacs.proofs.format.are_within.Statement.{statement}
 use Rattle.dimacs.proofs.format.are_within.Tie as tie
-use Rattle.dimacs.proofs.format.are_within.Reads as reads
-use Rattle.dimacs.proofs.format.are_within.Lts as lts
-use Rattle.dimacs.proofs.format.none_above.Reads as none-above-reads
 
 none-above-requires : tie.Need-none-above-requires
 none-above-requires c κs = search needs

@@ -1,4 +1,4 @@
-use mathlib.Core.Path.{_≡_, sym, ap, _∙_}
+use mathlib.Core.Path.{sym, ap, _∙_}
 use Rattle.dimacs.specs.declared.format.Format.{Format}
 use Rattle.scan.specs.Ascii.{bytes}
 use Rattle.scan.specs.Held.{heldLine}
@@ -8,9 +8,6 @@ use Rattle.dimacs.specs.Formats.{formatLine}
 use borrow.Author.Needs.{needs}
 use Rattle.dimacs.proofs.format.line_of.Statement.{statement}
 use Rattle.dimacs.proofs.format.line_of.Tie as tie
-use Rattle.dimacs.proofs.format.line_of.Reads as reads
-use Rattle.dimacs.proofs.format.line_of.Lts as lts
-use Rattle.scan.proofs.form.read_line.Reads as read-line-reads
 
 enum-told : tie.Need-enum-told
 enum-told c = search needs

@@ -1,13 +1,9 @@
-use mathlib.Core.Path.{_≡_, sym, ap, _∙_}
+use mathlib.Core.Path.{sym, ap, _∙_}
 use Rattle.dimacs.specs.declared.format.Format.{Format}
 use Rattle.dimacs.specs.Formats.{rulesOf}
 use borrow.Author.Needs.{needs}
 use Rattle.dimacs.proofs.format.rules_for.Statement.{statement}
 use Rattle.dimacs.proofs.format.rules_for.Tie as tie
-use Rattle.dimacs.proofs.format.rules_for.Reads as reads
-use Rattle.dimacs.proofs.format.rules_for.Lts as lts
-use Rattle.dimacs.proofs.format.rules_co.Reads as rules-co-reads
-use Rattle.dimacs.proofs.format.rules_gr.Reads as rules-gr-reads
 
 enum-told : tie.Need-enum-told
 enum-told c = search needs

@@ -1,13 +1,11 @@
 use mathlib.Core.Path.{_≡_, sym, ap, _∙_}
 use mir.Syntax.{w32}
 use mir.Val.{toZ, ofZ}
-use Rattle.dimacs.specs.Rows.{integerOf}
+use Rattle.dimacs.specs.Rows.{axisOf}
 use Rattle.dimacs.specs.declared.rows.Axis.{Axis}
 use borrow.Author.Needs.{needs}
 use Rattle.dimacs.proofs.rows.integer.Statement.{statement}
 use Rattle.dimacs.proofs.rows.integer.Tie as tie
-use Rattle.dimacs.proofs.rows.integer.Reads as reads
-use Rattle.dimacs.proofs.rows.integer.Lts as lts
 
 enum-told : tie.Need-enum-told
 enum-told c = search needs
@@ -19,13 +17,13 @@ returns : tie.Need-returns
 returns c =
     let ns = c .before .before .before .args .ns in
     let same : toZ w32 (ofZ w32 (ns .x)) ≡ ns .x = search needs in
-    same ∙ ap (λ (a : Axis). integerOf a ns) (sym (c .before .enum-told .given .1))
+    same ∙ ap (λ (a : Axis). axisOf a ns) (sym (c .before .enum-told .given .1))
 
 returns-2 : tie.Need-returns-2
 returns-2 c =
     let ns = c .before .before .before .args .ns in
     let same : toZ w32 (ofZ w32 (ns .y)) ≡ ns .y = search needs in
-    same ∙ ap (λ (a : Axis). integerOf a ns) (sym (c .before .enum-told2 .given .1))
+    same ∙ ap (λ (a : Axis). axisOf a ns) (sym (c .before .enum-told2 .given .1))
 
 pub integer-spec : {M : Type 1} → statement M
 integer-spec = tie.close (tie.spec enum-told enum-told-2 returns returns-2)

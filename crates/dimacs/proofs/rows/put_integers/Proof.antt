@@ -1,22 +1,19 @@
-use Prim.Native.Nat.{ℕ, _-_, _≤_}
+use Prim.Native.Nat.{_-_}
 use mathlib.Core.Path.{_≡_, _∙_}
 use native.Mathlib.Omega.{arith}
 use lib.ListN.{length}
 use borrow.Author.Needs.{needs, sfits-of}
 use mir.Facts.{toZ-ofZ}
-use Rattle.dimacs.specs.Rows.{integerOf}
+use Rattle.dimacs.specs.Rows.{axisOf}
 use Rattle.dimacs.proofs.RowLaws.{Filled, fill-more, fill-end}
 use Rattle.dimacs.proofs.rows.put_integers.Statement.{statement}
 use Rattle.dimacs.proofs.rows.put_integers.Tie as tie
-use Rattle.dimacs.proofs.rows.put_integers.Reads as reads
-use Rattle.dimacs.proofs.rows.put_integers.Lts as lts
-use Rattle.dimacs.proofs.rows.integer.Reads as integer-reads
 
 abbrev Inv-loop : tie.InvT-loop
-Inv-loop axis m row₀ lines i₀ row i = Filled (integerOf axis) lines m row₀ row i
+Inv-loop axis n row₀ lines i₀ row i = Filled (axisOf axis) lines n row₀ row i
 
 abbrev μ-loop : tie.MeasureT-loop
-μ-loop axis m row₀ lines i₀ row i = m - i
+μ-loop axis n row₀ lines i₀ row i = n - i
 
 loop-holds : tie.Need-loop-holds Inv-loop μ-loop
 loop-holds c = search needs
@@ -46,7 +43,7 @@ loop-again : tie.Need-loop-again Inv-loop μ-loop
 loop-again c =
     let args = c .before .before .before .before .args in
     let long : length (args .t1) ≡ 2048 = search needs in
-    fill-more _ (args .t1) (args .m) (args .row .now) _ _ (c .before .before .before .loop .inv) _ _ (omega arith) (omega arith) (c .before .before .loop-test .taken) (toZ-ofZ (sfits-of (c .integer .ok)) ∙ c .integer .ensures)
+    fill-more _ (args .t1) (args .n) (args .row .now) _ _ (c .before .before .before .loop .inv) _ _ (omega arith) (omega arith) (c .before .before .loop-test .taken) (toZ-ofZ (sfits-of (c .integer .ok)) ∙ c .integer .ensures)
 
 same-length : tie.Need-same-length Inv-loop μ-loop
 same-length c = c .before .loop .inv .long

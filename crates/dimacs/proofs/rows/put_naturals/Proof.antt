@@ -1,18 +1,15 @@
-use Prim.Native.Nat.{ℕ, _-_, _≤_}
-use mathlib.Core.Path.{_≡_, _∙_}
+use Prim.Native.Nat.{_-_}
+use mathlib.Core.Path.{_≡_}
 use native.Mathlib.Omega.{arith}
 use lib.ListN.{length}
 use borrow.Author.Needs.{needs}
-use Rattle.dimacs.specs.Rows.{naturalOf}
+use Rattle.dimacs.specs.Rows.{columnOf}
 use Rattle.dimacs.proofs.RowLaws.{Filled, fill-more, fill-end}
 use Rattle.dimacs.proofs.rows.put_naturals.Statement.{statement}
 use Rattle.dimacs.proofs.rows.put_naturals.Tie as tie
-use Rattle.dimacs.proofs.rows.put_naturals.Reads as reads
-use Rattle.dimacs.proofs.rows.put_naturals.Lts as lts
-use Rattle.dimacs.proofs.rows.natural.Reads as natural-reads
 
 abbrev Inv-loop : tie.InvT-loop
-Inv-loop column m row₀ lines i₀ row i = Filled (naturalOf column) lines m row₀ row i
+Inv-loop column m row₀ lines i₀ row i = Filled (columnOf column) lines m row₀ row i
 
 abbrev μ-loop : tie.MeasureT-loop
 μ-loop column m row₀ lines i₀ row i = m - i

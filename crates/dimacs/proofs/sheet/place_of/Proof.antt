@@ -1,8 +1,6 @@
 use borrow.Author.Needs.{needs}
 use Rattle.dimacs.proofs.sheet.place_of.Statement.{statement}
 use Rattle.dimacs.proofs.sheet.place_of.Tie as tie
-use Rattle.dimacs.proofs.sheet.place_of.Reads as reads
-use Rattle.dimacs.proofs.sheet.place_of.Lts as lts
 
 sub-result : tie.Need-sub-result
 sub-result c = c .before .before .pre (c .before .if1 .taken)

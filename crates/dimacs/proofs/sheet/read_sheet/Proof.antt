@@ -1,32 +1,39 @@
 use Rattle.scan.proofs.PieceLaws.{rest-long}
-use Prim.Native.Nat.{ℕ, _-_, _≤_}
-use mathlib.Core.Path.{_≡_, refl, sym, ap, _∙_}
+use Prim.Native.Nat.{_-_}
+use mathlib.Core.Path.{sym, ap, _∙_}
 use native.Mathlib.Omega.{arith}
-use lib.ListN.{length, take}
-use Rattle.rules.specs.declared.Judged.{Judged}
-use Rattle.dimacs.specs.Texts.{onJudged, next}
+use lib.ListN.{length}
+use Rattle.dimacs.specs.Texts.{next}
 use Rattle.dimacs.proofs.Fairness.{fair-of}
-use Rattle.dimacs.proofs.Reading.{Going, state, going-start, line-out, line-kept, line-problem, data-low, data-room, data-place, line-data, text-end, judged-out}
+use Rattle.dimacs.proofs.Reading.{Going, Turn, state, going-start, line-out, line-kept, line-problem, data-low, data-room, data-place, line-data, text-end, judged-out}
 use borrow.Author.Needs.{needs}
 use Rattle.dimacs.proofs.sheet.read_sheet.Statement.{statement}
 use Rattle.dimacs.proofs.sheet.read_sheet.Tie as tie
-use Rattle.dimacs.proofs.sheet.read_sheet.Reads as reads
-use Rattle.dimacs.proofs.sheet.read_sheet.Lts as lts
-use Rattle.dimacs.proofs.format.line_of.Reads as line-of-reads
-use Rattle.dimacs.proofs.format.rules_for.Reads as rules-for-reads
-use Rattle.dimacs.proofs.sheet.judge.Reads as judge-reads
-use Rattle.dimacs.proofs.sheet.judge_end.Reads as judge-end-reads
-use Rattle.dimacs.proofs.sheet.place_of.Reads as place-of-reads
-use Rattle.scan.proofs.form.no_numbers.Reads as no-numbers-reads
-use Rattle.scan.proofs.pieces.first_at.Reads as first-at-reads
-use Rattle.scan.proofs.pieces.front.Reads as front-reads
-use Rattle.scan.proofs.pieces.rest.Reads as rest-reads
 
 abbrev Inv-loop : tie.InvT-loop
 Inv-loop text format lines₀ taken₀ head₀ at₀ line₀ lines taken head at line = Going format text (state head taken lines) at line
 
 abbrev μ-loop : tie.MeasureT-loop
 μ-loop text format lines₀ taken₀ head₀ at₀ line₀ lines taken head at line = length text - at
+
+turn : (c : tie.After-judge Inv-loop μ-loop)
+    → Turn (c .before .before .before .before .before .before .before .before .before .before .before .before .before .args .format) (c .before .before .before .before .before .before .before .before .before .before .before .before .before .args .text .now) (c .before .before .before .before .before .before .before .before .before .loop .head) (c .before .before .before .before .before .before .before .before .before .loop .taken) (c .before .before .before .before .before .before .before .before .before .loop .lines) (c .before .before .before .before .before .before .before .before .before .loop .at) (c .before .before .before .before .before .before .before .before .before .loop .line)
+    (c .before .before .before .before .before .before .first-at .result) (c .before .before .before .before .line-of .result) (c .before .before .rules-for .result) (c .judge .result)
+turn c =
+    record {
+      ok = c .before .before .before .before .before .before .before .before .before .before .before .before .before .pre .1;
+      going = c .before .before .before .before .before .before .before .before .before .loop .inv;
+      more = c .before .before .before .before .before .before .before .before .loop-test .taken;
+      left = c .before .before .before .before .before .before .before .rest .result .now;
+      text-left = c .before .before .before .before .before .before .before .rest .ensures;
+      line-end = c .before .before .before .before .before .before .first-at .ensures .0;
+      in-left = c .before .before .before .before .before .before .first-at .ensures .1;
+      line = c .before .before .before .before .before .front .result .now;
+      line-cut = c .before .before .before .before .before .front .ensures;
+      held-line = c .before .before .before .before .line-of .ensures;
+      rules = c .before .before .rules-for .ensures;
+      judgement = c .judge .ensures;
+    }
 
 no-numbers-requires : tie.Need-no-numbers-requires Inv-loop μ-loop
 no-numbers-requires c κs = search needs
@@ -64,19 +71,22 @@ enum-told-2 c = search needs
 
 returns : tie.Need-returns Inv-loop μ-loop
 returns c =
-    judged-out _ _ _ (c .enum-told2 .given .1) ∙ sym (line-out (c .before .before .before .before .before .before .before .before .before .before .before .before .before .before .before .args .format) (c .before .before .before .before .before .before .before .before .before .before .before .before .before .before .before .pre .1) _ _ _ _ _ _ (c .before .before .before .before .before .before .before .before .before .before .before .loop .inv) (c .before .before .before .before .before .before .before .before .before .before .loop-test .taken) _ _ _ _ _ _ (c .before .before .before .before .before .before .before .before .before .rest .ensures) (c .before .before .before .before .before .before .before .before .first-at .ensures .0) (c .before .before .before .before .before .before .before .before .first-at .ensures .1) (c .before .before .before .before .before .before .before .front .ensures) (c .before .before .before .before .before .before .line-of .ensures) (c .before .before .before .before .rules-for .ensures) (c .before .before .judge .ensures) _ (c .enum-told2 .given .1))
+    judged-out _ _ _ (c .enum-told2 .given .1) ∙ sym (line-out _ _ _ _ _ _ _ _ _ _ _ (turn (c .before .before)) _ (c .enum-told2 .given .1))
 
 add-next : tie.Need-add-next Inv-loop μ-loop
 add-next c =
-    omega (arith, rest-long _ _ (c .before .before .before .before .before .before .before .before .before .before .before .loop .at) (c .before .before .before .before .before .before .before .before .before .rest .ensures), c .before .before .before .before .before .before .before .before .first-at .ensures .1, c .before .before .before .before .before .before .before .before .before .before .before .before .before .before .before .pre .0, c .before .before .before .before .before .before .before .before .before .before .loop-test .taken)
+    let g = turn (c .before .before) in
+    omega (arith, rest-long _ _ (c .before .before .before .before .before .before .before .before .before .before .before .loop .at) (g .text-left), g .in-left, c .before .before .before .before .before .before .before .before .before .before .before .before .before .before .before .pre .0, g .more)
 
 add-next-2 : tie.Need-add-next-2 Inv-loop μ-loop
 add-next-2 c =
-    omega (arith, rest-long _ _ (c .before .before .before .before .before .before .before .before .before .before .before .loop .at) (c .before .before .before .before .before .before .before .before .before .rest .ensures), c .before .before .before .before .before .before .before .before .first-at .ensures .1, c .before .before .before .before .before .before .before .before .before .before .before .before .before .before .before .pre .0, c .before .before .before .before .before .before .before .before .before .before .loop-test .taken)
+    let g = turn (c .before .before) in
+    omega (arith, rest-long _ _ (c .before .before .before .before .before .before .before .before .before .before .before .loop .at) (g .text-left), g .in-left, c .before .before .before .before .before .before .before .before .before .before .before .before .before .before .before .pre .0, g .more)
 
 add-below : tie.Need-add-below Inv-loop μ-loop
 add-below c =
-    omega (arith, c .before .before .before .before .before .before .before .before .before .before .before .loop .inv .lined, c .before .before .before .before .before .before .before .before .before .before .before .before .before .before .before .pre .0, c .before .before .before .before .before .before .before .before .before .before .loop-test .taken)
+    let g = turn (c .before .before) in
+    omega (arith, g .going .lined, c .before .before .before .before .before .before .before .before .before .before .before .before .before .before .before .pre .0, g .more)
 
 enum-known-l : tie.Need-enum-known-l Inv-loop μ-loop
 enum-known-l c = search needs
@@ -86,23 +96,23 @@ enum-known-l-2 c = search needs
 
 place-of-requires : tie.Need-place-of-requires Inv-loop μ-loop
 place-of-requires c κs =
-    data-low (c .before .before .before .before .before .before .before .before .before .before .before .before .before .before .before .before .before .before .args .format) (c .before .before .before .before .before .before .before .before .before .before .before .before .before .before .before .before .before .before .pre .1) _ _ _ _ _ _ (c .before .before .before .before .before .before .before .before .before .before .before .before .before .before .loop .inv) (c .before .before .before .before .before .before .before .before .before .before .before .before .before .loop-test .taken) _ _ _ _ _ _ (c .before .before .before .before .before .before .before .before .before .before .before .before .rest .ensures) (c .before .before .before .before .before .before .before .before .before .before .before .first-at .ensures .0) (c .before .before .before .before .before .before .before .before .before .before .before .first-at .ensures .1) (c .before .before .before .before .before .before .before .before .before .before .front .ensures) (c .before .before .before .before .before .before .before .before .before .line-of .ensures) (c .before .before .before .before .before .before .before .rules-for .ensures) (c .before .before .before .before .before .judge .ensures) (c .before .before .before .enum-told .given .1) _ (c .before .l2 .given .1)
+    data-low _ _ _ _ _ _ _ _ _ _ _ (turn (c .before .before .before .before .before)) (c .before .before .before .enum-told .given .1) _ (c .before .l2 .given .1)
 
 array-write-taken : tie.Need-array-write-taken Inv-loop μ-loop
 array-write-taken c =
-    data-place (c .before .before .before .before .before .before .before .before .before .before .before .before .before .before .before .before .before .before .before .args .format) (c .before .before .before .before .before .before .before .before .before .before .before .before .before .before .before .before .before .before .before .pre .1) _ _ _ _ _ _ (c .before .before .before .before .before .before .before .before .before .before .before .before .before .before .before .loop .inv) (c .before .before .before .before .before .before .before .before .before .before .before .before .before .before .loop-test .taken) _ _ _ _ _ _ (c .before .before .before .before .before .before .before .before .before .before .before .before .before .rest .ensures) (c .before .before .before .before .before .before .before .before .before .before .before .before .first-at .ensures .0) (c .before .before .before .before .before .before .before .before .before .before .before .before .first-at .ensures .1) (c .before .before .before .before .before .before .before .before .before .before .before .front .ensures) (c .before .before .before .before .before .before .before .before .before .before .line-of .ensures) (c .before .before .before .before .before .before .before .before .rules-for .ensures) (c .before .before .before .before .before .before .judge .ensures) (c .before .before .before .before .enum-told .given .1) _ _ (c .before .before .l2 .given .1) (c .place-of .ensures)
+    data-place _ _ _ _ _ _ _ _ _ _ _ (turn (c .before .before .before .before .before .before)) (c .before .before .before .before .enum-told .given .1) _ _ (c .before .before .l2 .given .1) (c .place-of .ensures)
 
 mul-lines : tie.Need-mul-lines Inv-loop μ-loop
 mul-lines c =
-    let low = data-place (c .before .before .before .before .before .before .before .before .before .before .before .before .before .before .before .before .before .before .before .args .format) (c .before .before .before .before .before .before .before .before .before .before .before .before .before .before .before .before .before .before .before .pre .1) _ _ _ _ _ _ (c .before .before .before .before .before .before .before .before .before .before .before .before .before .before .before .loop .inv) (c .before .before .before .before .before .before .before .before .before .before .before .before .before .before .loop-test .taken) _ _ _ _ _ _ (c .before .before .before .before .before .before .before .before .before .before .before .before .before .rest .ensures) (c .before .before .before .before .before .before .before .before .before .before .before .before .first-at .ensures .0) (c .before .before .before .before .before .before .before .before .before .before .before .before .first-at .ensures .1) (c .before .before .before .before .before .before .before .before .before .before .before .front .ensures) (c .before .before .before .before .before .before .before .before .before .before .line-of .ensures) (c .before .before .before .before .before .before .before .before .rules-for .ensures) (c .before .before .before .before .before .before .judge .ensures) (c .before .before .before .before .enum-told .given .1) _ _ (c .before .before .l2 .given .1) (c .place-of .ensures) in omega arith
+    let low = data-place _ _ _ _ _ _ _ _ _ _ _ (turn (c .before .before .before .before .before .before)) (c .before .before .before .before .enum-told .given .1) _ _ (c .before .before .l2 .given .1) (c .place-of .ensures) in omega arith
 
 array-set-from-lines : tie.Need-array-set-from-lines Inv-loop μ-loop
 array-set-from-lines c =
-    data-place (c .before .before .before .before .before .before .before .before .before .before .before .before .before .before .before .before .before .before .before .args .format) (c .before .before .before .before .before .before .before .before .before .before .before .before .before .before .before .before .before .before .before .pre .1) _ _ _ _ _ _ (c .before .before .before .before .before .before .before .before .before .before .before .before .before .before .before .loop .inv) (c .before .before .before .before .before .before .before .before .before .before .before .before .before .before .loop-test .taken) _ _ _ _ _ _ (c .before .before .before .before .before .before .before .before .before .before .before .before .before .rest .ensures) (c .before .before .before .before .before .before .before .before .before .before .before .before .first-at .ensures .0) (c .before .before .before .before .before .before .before .before .before .before .before .before .first-at .ensures .1) (c .before .before .before .before .before .before .before .before .before .before .before .front .ensures) (c .before .before .before .before .before .before .before .before .before .before .line-of .ensures) (c .before .before .before .before .before .before .before .before .rules-for .ensures) (c .before .before .before .before .before .before .judge .ensures) (c .before .before .before .before .enum-told .given .1) _ _ (c .before .before .l2 .given .1) (c .place-of .ensures)
+    data-place _ _ _ _ _ _ _ _ _ _ _ (turn (c .before .before .before .before .before .before)) (c .before .before .before .before .enum-told .given .1) _ _ (c .before .before .l2 .given .1) (c .place-of .ensures)
 
 add-t33 : tie.Need-add-t33 Inv-loop μ-loop
 add-t33 c =
-    let room = data-room (c .before .before .before .before .before .before .before .before .before .before .before .before .before .before .before .before .before .before .before .args .format) (c .before .before .before .before .before .before .before .before .before .before .before .before .before .before .before .before .before .before .before .pre .1) _ _ _ _ _ _ (c .before .before .before .before .before .before .before .before .before .before .before .before .before .before .before .loop .inv) (c .before .before .before .before .before .before .before .before .before .before .before .before .before .before .loop-test .taken) _ _ _ _ _ _ (c .before .before .before .before .before .before .before .before .before .before .before .before .before .rest .ensures) (c .before .before .before .before .before .before .before .before .before .before .before .before .first-at .ensures .0) (c .before .before .before .before .before .before .before .before .before .before .before .before .first-at .ensures .1) (c .before .before .before .before .before .before .before .before .before .before .before .front .ensures) (c .before .before .before .before .before .before .before .before .before .before .line-of .ensures) (c .before .before .before .before .before .before .before .before .rules-for .ensures) (c .before .before .before .before .before .before .judge .ensures) (c .before .before .before .before .enum-told .given .1) _ (c .before .before .l2 .given .1) in omega arith
+    let room = data-room _ _ _ _ _ _ _ _ _ _ _ (turn (c .before .before .before .before .before .before)) (c .before .before .before .before .enum-told .given .1) _ (c .before .before .l2 .given .1) in omega arith
 
 enum-told-3 : tie.Need-enum-told-3 Inv-loop μ-loop
 enum-told-3 c = search needs
@@ -115,14 +125,14 @@ loop-less c = search needs
 
 loop-again : tie.Need-loop-again Inv-loop μ-loop
 loop-again c =
-    line-problem (c .before .before .before .before .before .before .before .before .before .before .before .before .before .before .before .before .before .before .args .format) (c .before .before .before .before .before .before .before .before .before .before .before .before .before .before .before .before .before .before .pre .1) _ _ _ _ _ _ (c .before .before .before .before .before .before .before .before .before .before .before .before .before .before .loop .inv) (c .before .before .before .before .before .before .before .before .before .before .before .before .before .loop-test .taken) _ _ _ _ _ _ (c .before .before .before .before .before .before .before .before .before .before .before .before .rest .ensures) (c .before .before .before .before .before .before .before .before .before .before .before .first-at .ensures .0) (c .before .before .before .before .before .before .before .before .before .before .before .first-at .ensures .1) (c .before .before .before .before .before .before .before .before .before .before .front .ensures) (c .before .before .before .before .before .before .before .before .before .line-of .ensures) (c .before .before .before .before .before .before .before .rules-for .ensures) (c .before .before .before .before .before .judge .ensures) (c .before .before .before .enum-told .given .1) _ (c .before .l .given .1)
+    line-problem _ _ _ _ _ _ _ _ _ _ _ (turn (c .before .before .before .before .before)) (c .before .before .before .enum-told .given .1) _ (c .before .l .given .1)
 
 loop-less-2 : tie.Need-loop-less-2 Inv-loop μ-loop
 loop-less-2 c = search needs
 
 loop-again-2 : tie.Need-loop-again-2 Inv-loop μ-loop
 loop-again-2 c =
-    line-data (c .before .before .before .before .before .before .before .before .before .before .before .before .before .before .before .before .before .before .before .args .format) (c .before .before .before .before .before .before .before .before .before .before .before .before .before .before .before .before .before .before .before .pre .1) _ _ _ _ _ _ (c .before .before .before .before .before .before .before .before .before .before .before .before .before .before .before .loop .inv) (c .before .before .before .before .before .before .before .before .before .before .before .before .before .before .loop-test .taken) _ _ _ _ _ _ (c .before .before .before .before .before .before .before .before .before .before .before .before .before .rest .ensures) (c .before .before .before .before .before .before .before .before .before .before .before .before .first-at .ensures .0) (c .before .before .before .before .before .before .before .before .before .before .before .before .first-at .ensures .1) (c .before .before .before .before .before .before .before .before .before .before .before .front .ensures) (c .before .before .before .before .before .before .before .before .before .before .line-of .ensures) (c .before .before .before .before .before .before .before .before .rules-for .ensures) (c .before .before .before .before .before .before .judge .ensures) (c .before .before .before .before .enum-told .given .1) _ _ (c .before .before .l2 .given .1) (c .place-of .ensures)
+    line-data _ _ _ _ _ _ _ _ _ _ _ (turn (c .before .before .before .before .before .before)) (c .before .before .before .before .enum-told .given .1) _ _ (c .before .before .l2 .given .1) (c .place-of .ensures)
 
 loop-less-3 : tie.Need-loop-less-3 Inv-loop μ-loop
 loop-less-3 c = search needs
@@ -130,7 +140,7 @@ loop-less-3 c = search needs
 loop-again-3 : tie.Need-loop-again-3 Inv-loop μ-loop
 unfolding next
 loop-again-3 c =
-    line-kept (c .before .before .before .before .before .before .before .before .before .before .before .before .before .before .before .before .before .args .format) (c .before .before .before .before .before .before .before .before .before .before .before .before .before .before .before .before .before .pre .1) _ _ _ _ _ _ (c .before .before .before .before .before .before .before .before .before .before .before .before .before .loop .inv) (c .before .before .before .before .before .before .before .before .before .before .before .before .loop-test .taken) _ _ _ _ _ _ (c .before .before .before .before .before .before .before .before .before .before .before .rest .ensures) (c .before .before .before .before .before .before .before .before .before .before .first-at .ensures .0) (c .before .before .before .before .before .before .before .before .before .before .first-at .ensures .1) (c .before .before .before .before .before .before .before .before .before .front .ensures) (c .before .before .before .before .before .before .before .before .line-of .ensures) (c .before .before .before .before .before .before .rules-for .ensures) (c .before .before .before .before .judge .ensures) (c .before .before .enum-told .given .1) (ap (next _ _) (c .enum-told3 .given .1))
+    line-kept _ _ _ _ _ _ _ _ _ _ _ (turn (c .before .before .before .before)) (c .before .before .enum-told .given .1) (ap (next _ _) (c .enum-told3 .given .1))
 
 loop-less-4 : tie.Need-loop-less-4 Inv-loop μ-loop
 loop-less-4 c = search needs
@@ -138,7 +148,7 @@ loop-less-4 c = search needs
 loop-again-4 : tie.Need-loop-again-4 Inv-loop μ-loop
 unfolding next
 loop-again-4 c =
-    line-kept (c .before .before .before .before .before .before .before .before .before .before .before .before .before .before .before .before .before .args .format) (c .before .before .before .before .before .before .before .before .before .before .before .before .before .before .before .before .before .pre .1) _ _ _ _ _ _ (c .before .before .before .before .before .before .before .before .before .before .before .before .before .loop .inv) (c .before .before .before .before .before .before .before .before .before .before .before .before .loop-test .taken) _ _ _ _ _ _ (c .before .before .before .before .before .before .before .before .before .before .before .rest .ensures) (c .before .before .before .before .before .before .before .before .before .before .first-at .ensures .0) (c .before .before .before .before .before .before .before .before .before .before .first-at .ensures .1) (c .before .before .before .before .before .before .before .before .before .front .ensures) (c .before .before .before .before .before .before .before .before .line-of .ensures) (c .before .before .before .before .before .before .rules-for .ensures) (c .before .before .before .before .judge .ensures) (c .before .before .enum-told .given .1) (ap (next _ _) (c .enum-told4 .given .1))
+    line-kept _ _ _ _ _ _ _ _ _ _ _ (turn (c .before .before .before .before)) (c .before .before .enum-told .given .1) (ap (next _ _) (c .enum-told4 .given .1))
 
 judge-end-requires : tie.Need-judge-end-requires Inv-loop μ-loop
 judge-end-requires c κs = search needs

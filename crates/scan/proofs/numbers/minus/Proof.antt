@@ -1,5 +1,3 @@
-use mathlib.Core.Path.{_≡_, refl, sym, ap, _∙_}
-use native.Mathlib.Omega.{arith}
 use Rattle.scan.proofs.NumberLaws.{minus-read, minus-fits}
 use mir.Facts.{toZ-ofZ}
 use borrow.Author.Needs.{needs}

@@ -1,5 +1,3 @@
-use mathlib.Core.Path.{_≡_, refl, sym, ap, _∙_}
-use native.Mathlib.Omega.{arith}
 use Rattle.scan.proofs.NumberLaws.{plus-read}
 use borrow.Author.Needs.{needs}
 use Rattle.scan.proofs.numbers.plus.Statement.{statement}

@@ -1,8 +1,8 @@
-use Rattle.scan.specs.declared.numbers.Natural.the-variants.{Number, NoNumber}
-use Prim.Native.Nat.{ℕ, _≤_, _<_, _-_, _+_}
-use mathlib.Core.Path.{_≡_, refl, sym, _∙_, ap}
+use Rattle.scan.specs.declared.numbers.Natural.the-variants.{Number}
+use Prim.Native.Nat.{_≤_, _-_}
+use mathlib.Core.Path.{_≡_, _∙_, ap}
 use native.Mathlib.Omega.{arith}
-use lib.ListN.{length, getD, drop}
+use lib.ListN.{length, drop}
 use Rattle.scan.specs.Numbers.{valueFrom}
 use Rattle.scan.specs.Held.{held, heldNatural}
 use Rattle.scan.proofs.NumberLaws.{digits-low, digits-high, digits-more, digits-end, held-alike}

@@ -1,4 +1,4 @@
-use mathlib.Core.Path.{_≡_, sym, ap, _∙_}
+use mathlib.Core.Path.{sym, ap, _∙_}
 use mir.Facts.{toZ-ofZ}
 use borrow.Author.Needs.{sfits-of}
 use Rattle.scan.specs.Numbers.{negated, plain}
@@ -7,13 +7,6 @@ use Rattle.scan.proofs.NumberLaws.{number-small, negated-zero, negated-
 use borrow.Author.Needs.{needs}
 use Rattle.scan.proofs.numbers.read_integer.Statement.{statement}
 use Rattle.scan.proofs.numbers.read_integer.Tie as tie
-use Rattle.scan.proofs.numbers.read_integer.Reads as reads
-use Rattle.scan.proofs.numbers.read_integer.Lts as lts
-use Rattle.scan.proofs.numbers.minus.Reads as minus-reads
-use Rattle.scan.proofs.numbers.plus.Reads as plus-reads
-use Rattle.scan.proofs.numbers.read_natural.Reads as read-natural-reads
-use Rattle.scan.proofs.pieces.first_byte.Reads as first-byte-reads
-use Rattle.scan.proofs.pieces.rest.Reads as rest-reads
 
 first-byte-requires : tie.Need-first-byte-requires
 first-byte-requires c κs = search needs

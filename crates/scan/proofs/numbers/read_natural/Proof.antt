@@ -1,15 +1,9 @@
 use Rattle.scan.specs.Held.{heldNatural}
 use Rattle.scan.proofs.NumberLaws.{natural-none, natural-one, natural-padded, natural-more}
-use mathlib.Core.Path.{_≡_, sym, ap, _∙_}
-use native.Mathlib.Omega.{arith}
-use borrow.Author.Tests.{eq-eqb, ne-eqb, le-leb, lt-leb}
+use mathlib.Core.Path.{sym, ap, _∙_}
 use borrow.Author.Needs.{needs}
 use Rattle.scan.proofs.numbers.read_natural.Statement.{statement}
 use Rattle.scan.proofs.numbers.read_natural.Tie as tie
-use Rattle.scan.proofs.numbers.read_natural.Reads as reads
-use Rattle.scan.proofs.numbers.read_natural.Lts as lts
-use Rattle.scan.proofs.numbers.read_digits.Reads as read-digits-reads
-use Rattle.scan.proofs.pieces.first_byte.Reads as first-byte-reads
 
 first-byte-requires : tie.Need-first-byte-requires
 first-byte-requires c κs = search needs

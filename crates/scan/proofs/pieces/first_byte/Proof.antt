@@ -3,8 +3,6 @@ use Rattle.scan.proofs.PieceLaws.{none-first}
 use borrow.Author.Needs.{needs}
 use Rattle.scan.proofs.pieces.first_byte.Statement.{statement}
 use Rattle.scan.proofs.pieces.first_byte.Tie as tie
-use Rattle.scan.proofs.pieces.first_byte.Reads as reads
-use Rattle.scan.proofs.pieces.first_byte.Lts as lts
 
 returns : tie.Need-returns
 returns c = sym (none-first (c .before .args .s .now) (c .if1 .taken))

@@ -1,6 +1,4 @@
 use native.Mathlib.Nat.{le-of-eq}
-use native.Mathlib.Omega.{arith}
-use native.Mathlib.Nat.{le-refl}
 use lib.Seq.{take-all}
 use lib.ListN.{length-drop}
 use borrow.Author.Needs.{needs}

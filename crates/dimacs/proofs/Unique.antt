@@ -1,0 +1,39 @@
+-- Each call of a reader has one reply and one content of every lent row, refused calls too. Assumes nothing.
+use mathlib.Core.Path.{_≡_, refl, sym, ap, _∙_}
+use mathlib.Core.List.{List, [], _∷_}
+use Prim.Native.Nat.{ℕ}
+use lib.IntN.{ℤ}
+use lib.ListN.{getD}
+use Rattle.rules.specs.Paper.{Reply, refusal-injective}
+use Rattle.dimacs.specs.Reading.{grReply, coReply}
+use Rattle.dimacs.specs.Promise.{GrPromise, CoPromise}
+use Rattle.dimacs.specs.declared.GrReply.{GrReply}
+use Rattle.dimacs.specs.declared.GrReply.the-variants.{Read as GrRead, Refused as GrRefused}
+use Rattle.dimacs.specs.declared.CoReply.{CoReply}
+use Rattle.dimacs.specs.declared.CoReply.the-variants.{Read as CoRead, Refused as CoRefused}
+use Rattle.dimacs.proofs.Accepted.{not-accepted}
+
+-- no two answers have the same number and values
+pub gr-reply-injective : (r s : GrReply) → grReply r ≡ grReply s → r ≡ s
+gr-reply-injective (GrRead n m) (GrRead k l) e =
+    let a : n ≡ k = ap (λ (x : Reply). getD (x .values) 0 0) e in
+    let b : m ≡ l = ap (λ (x : Reply). getD (x .values) 1 0) e in
+    rw (a, b)
+gr-reply-injective (GrRead n m) (GrRefused s) e = absurd (not-accepted s (n ∷ m ∷ []) (sym e))
+gr-reply-injective (GrRefused r) (GrRead k l) e = absurd (not-accepted r (k ∷ l ∷ []) e)
+gr-reply-injective (GrRefused r) (GrRefused s) e = ap GrRefused (refusal-injective r s e)
+
+pub co-reply-injective : (r s : CoReply) → coReply r ≡ coReply s → r ≡ s
+co-reply-injective CoRead CoRead e = refl
+co-reply-injective CoRead (CoRefused s) e = absurd (not-accepted s [] (sym e))
+co-reply-injective (CoRefused r) CoRead e = absurd (not-accepted r [] e)
+co-reply-injective (CoRefused r) (CoRefused s) e = ap CoRefused (refusal-injective r s e)
+
+pub read-gr-unique : (text tails heads weights : List ℕ) (r s : GrReply) (a b c a′ b′ c′ : List ℕ)
+    → GrPromise text tails heads weights r a b c → GrPromise text tails heads weights s a′ b′ c′ → (r ≡ s) × (a ≡ a′) × (b ≡ b′) × (c ≡ c′)
+read-gr-unique text tails heads weights r s a b c a′ b′ c′ p q =
+    (gr-reply-injective r s (p .reply ∙ sym (q .reply)), p .tails-left ∙ sym (q .tails-left), p .heads-left ∙ sym (q .heads-left), p .weights-left ∙ sym (q .weights-left))
+
+pub read-co-unique : (text : List ℕ) (n : ℕ) (x y : List ℤ) (r s : CoReply) (a b a′ b′ : List ℤ)
+    → CoPromise text n x y r a b → CoPromise text n x y s a′ b′ → (r ≡ s) × (a ≡ a′) × (b ≡ b′)
+read-co-unique text n x y r s a b a′ b′ p q = (co-reply-injective r s (p .reply ∙ sym (q .reply)), p .x-left ∙ sym (q .x-left), p .y-left ∙ sym (q .y-left))

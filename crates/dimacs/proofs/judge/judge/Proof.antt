@@ -1,0 +1,58 @@
+use mathlib.Core.Path.{sym, ap, _∙_}
+use Rattle.dimacs.specs.Judgement.{judged}
+use borrow.Author.Needs.{needs}
+use Rattle.dimacs.proofs.judge.judge.Statement.{statement}
+use Rattle.dimacs.proofs.judge.judge.Tie as tie
+
+enum-told : tie.Need-enum-told
+enum-told c = search needs
+
+enum-known-l : tie.Need-enum-known-l
+enum-known-l c = search needs
+
+judge-problem-requires : tie.Need-judge-problem-requires
+judge-problem-requires c κs = search needs
+
+enum-known-l-2 : tie.Need-enum-known-l-2
+enum-known-l-2 c = search needs
+
+judge-data-requires : tie.Need-judge-data-requires
+judge-data-requires c κs = search needs
+
+enum-told-2 : tie.Need-enum-told-2
+enum-told-2 c = search needs
+
+returns : tie.Need-returns
+unfolding judged
+returns c =
+    ap (judged (c .before .before .args .rules) (c .before .before .args .head) (c .before .before .args .taken .now) (c .before .before .args .line)) (sym (c .enum-told .given .1))
+
+returns-2 : tie.Need-returns-2
+unfolding judged
+returns-2 c =
+    c .judge-problem .ensures ∙ ap (judged (c .before .before .before .before .args .rules) (c .before .before .before .before .args .head) (c .before .before .before .before .args .taken .now) (c .before .before .before .before .args .line)) (sym (c .before .before .l .given .1))
+
+returns-3 : tie.Need-returns-3
+unfolding judged
+returns-3 c =
+    c .judge-data .ensures ∙ ap (judged (c .before .before .before .before .args .rules) (c .before .before .before .before .args .head) (c .before .before .before .before .args .taken .now) (c .before .before .before .before .args .line)) (sym (c .before .before .l2 .given .1))
+
+returns-4 : tie.Need-returns-4
+unfolding judged
+returns-4 c =
+    ap (judged (c .before .before .args .rules) (c .before .before .args .head) (c .before .before .args .taken .now) (c .before .before .args .line)) (sym (c .enum-told2 .given .1))
+
+pub judge-spec : {M : Type 1} → statement M
+judge-spec =
+    tie.close
+    (tie.spec
+    enum-told
+    enum-known-l
+    judge-problem-requires
+    enum-known-l-2
+    judge-data-requires
+    enum-told-2
+    returns
+    returns-2
+    returns-3
+    returns-4)

@@ -1,0 +1,59 @@
+-- Laws of the lines of a format. Assumes nothing.
+use mathlib.Core.Path.{_≡_, refl, ap, _∙_}
+use mathlib.Core.List.{List, [], _∷_}
+use mathlib.Core.Bool.{true, false}
+use Prim.Native.Nat.{ℕ}
+use Prim.Native.Char.{code}
+use lib.ListN.{length, take}
+use borrow.Author.Tests.{eq-eqb, ne-eqb}
+use Rattle.scan.specs.Pieces.{firstAt, firstField, sameBytes, fieldsOf}
+use Rattle.scan.specs.Fields.{none, matched}
+use Rattle.scan.specs.Line.{problemLine, dataLine, faulty, lineOf}
+use Rattle.scan.specs.Held.{heldFields, heldLine}
+use Rattle.scan.specs.declared.fields.Kind.the-variants.{EmptyLine, NoLetter}
+use Rattle.scan.specs.declared.fields.Fault.{Fault}
+use Rattle.scan.specs.declared.fields.Fields.{Fields}
+use Rattle.scan.specs.declared.fields.Fields.the-variants.{Read, Unread}
+use Rattle.scan.specs.declared.line.Line.the-variants.{Comment}
+
+held-problem : (f : Fields) → problemLine (heldFields f) ≡ heldLine (problemLine f)
+unfolding heldFields heldLine
+held-problem (Read ns) = refl
+held-problem (Unread f) = refl
+
+held-data : (f : Fields) → dataLine (heldFields f) ≡ heldLine (dataLine f)
+unfolding heldFields heldLine
+held-data (Read ns) = refl
+held-data (Unread f) = refl
+
+-- a fault is handed on as it came
+pub handed-on : (f : Fields) (x : Fault) → f ≡ Unread x → dataLine f ≡ problemLine f
+handed-on f x e = rw e
+
+pub line-empty : (problem rows s : List ℕ) → length s ≡ 0 → faulty EmptyLine ≡ heldLine (lineOf problem rows s)
+unfolding lineOf heldLine
+line-empty problem rows s h = rw (eq-eqb (length s) 0 h)
+
+-- a first field, which ends at e
+pub first-field : (s l : List ℕ) (e : ℕ) → e ≡ firstAt 32 s → l ≡ take e s → l ≡ firstField s
+first-field s l e ee el = el ∙ ap (λ (n : ℕ). take n s) ee
+
+-- the line is not empty, and its first field is l
+module _ (problem rows s l : List ℕ) (some : length s ≡ 0 → ⊥) (letter : l ≡ firstField s) where
+  pub line-comment : sameBytes l (code "c" ∷ []) ≡ true → Comment ≡ heldLine (lineOf problem rows s)
+  unfolding lineOf heldLine
+  line-comment t = rw (ne-eqb (length s) 0 some, ← letter, t)
+
+  module _ (not-c : sameBytes l (code "c" ∷ []) ≡ false) (p : List ℕ) (letter-p : p ≡ firstField problem) where
+    pub line-problem : (f : Fields) → sameBytes l p ≡ true → f ≡ heldFields (matched (fieldsOf problem) 1 (fieldsOf s) none) → problemLine f ≡ heldLine (lineOf problem rows s)
+    unfolding lineOf
+    line-problem f t h = rw (ne-eqb (length s) 0 some, ← letter, ← letter-p, not-c, t, h) (held-problem _)
+
+    module _ (not-p : sameBytes l p ≡ false) (q : List ℕ) (letter-q : q ≡ firstField rows) where
+      pub line-data : (f : Fields) → sameBytes l q ≡ true → f ≡ heldFields (matched (fieldsOf rows) 1 (fieldsOf s) none) → dataLine f ≡ heldLine (lineOf problem rows s)
+      unfolding lineOf
+      line-data f t h = rw (ne-eqb (length s) 0 some, ← letter, ← letter-p, ← letter-q, not-c, not-p, t, h) (held-data _)
+
+      pub line-none : sameBytes l q ≡ false → faulty NoLetter ≡ heldLine (lineOf problem rows s)
+      unfolding lineOf heldLine
+      line-none t = rw (ne-eqb (length s) 0 some, ← letter, ← letter-p, ← letter-q, not-c, not-p, t)

@@ -1,0 +1,167 @@
+use Prim.Native.Nat.{_-_}
+use native.Mathlib.Omega.{arith}
+use lib.ListN.{length}
+use borrow.Author.Needs.{needs}
+use Rattle.scan.proofs.PieceLaws.{rest-long}
+use Rattle.scan.proofs.FieldLaws.{Matching, Step, matching-start, field-bad, field-last, field-extra, field-missing, field-more}
+use Rattle.scan.proofs.fields.read_fields.Statement.{statement}
+use Rattle.scan.proofs.fields.read_fields.Tie as tie
+
+abbrev Inv-loop : tie.InvT-loop
+Inv-loop form s ns₀ i₀ j₀ ns i j = Matching form s ns i j
+
+abbrev μ-loop : tie.MeasureT-loop
+μ-loop form s ns₀ i₀ j₀ ns i j = length form - i
+
+step : (c : tie.After-take-field Inv-loop μ-loop)
+    → Step (c .before .before .before .before .before .before .before .before .before .before .before .args .form .now) (c .before .before .before .before .before .before .before .before .before .before .before .args .s .now) (c .before .before .before .before .before .before .before .loop .ns) (c .before .before .before .before .before .before .before .loop .i) (c .before .before .before .before .before .before .before .loop .j) (c .before .before .before .before .before .before .rest .result .now) (c .before .before .before .before .before .rest2 .result .now)
+    (c .before .before .before .before .first-at .result) (c .before .before .before .first-at2 .result) (c .take-field .result)
+step c =
+    record {
+      matching = c .before .before .before .before .before .before .before .loop .inv;
+      form-rest = c .before .before .before .before .before .before .rest .ensures;
+      line-rest = c .before .before .before .before .before .rest2 .ensures;
+      form-end = c .before .before .before .before .first-at .ensures .0;
+      line-end = c .before .before .before .first-at2 .ensures .0;
+      in-line = c .before .before .before .first-at2 .ensures .1;
+      word = c .before .before .front .result .now;
+      form-field = c .before .before .front .ensures;
+      field = c .before .front2 .result .now;
+      line-field = c .before .front2 .ensures;
+      same-field = c .take-field .ensures;
+    }
+
+no-numbers-requires : tie.Need-no-numbers-requires Inv-loop μ-loop
+no-numbers-requires c κs = search needs
+
+loop-holds : tie.Need-loop-holds Inv-loop μ-loop
+loop-holds c = matching-start _ _ _ (c .no-numbers .ensures)
+
+rest-requires : tie.Need-rest-requires Inv-loop μ-loop
+rest-requires c κs = search needs
+
+rest-requires-2 : tie.Need-rest-requires-2 Inv-loop μ-loop
+rest-requires-2 c κs = search needs
+
+first-at-requires : tie.Need-first-at-requires Inv-loop μ-loop
+first-at-requires c κs = search needs
+
+first-at-requires-2 : tie.Need-first-at-requires-2 Inv-loop μ-loop
+first-at-requires-2 c κs = search needs
+
+front-requires : tie.Need-front-requires Inv-loop μ-loop
+front-requires c κs = search needs
+
+front-requires-2 : tie.Need-front-requires-2 Inv-loop μ-loop
+front-requires-2 c κs = search needs
+
+take-field-requires : tie.Need-take-field-requires Inv-loop μ-loop
+take-field-requires c κs = c .before .before .before .before .before .before .loop .inv .kept
+
+enum-known-f : tie.Need-enum-known-f Inv-loop μ-loop
+enum-known-f c = search needs
+
+enum-told : tie.Need-enum-told Inv-loop μ-loop
+enum-told c = search needs
+
+add-t15 : tie.Need-add-t15 Inv-loop μ-loop
+add-t15 c = search needs
+
+returns : tie.Need-returns Inv-loop μ-loop
+returns c = field-bad _ _ _ _ _ _ _ _ _ _ (step (c .before .before)) (c .enum-told .given .1)
+
+returns-2 : tie.Need-returns-2 Inv-loop μ-loop
+returns-2 c =
+    field-last _ _ _ _ _ _ _ _ _ _ (step (c .before .before .before .before .before)) _ (c .before .before .before .f .given .1) (c .before .if1 .taken) (c .if2 .taken)
+
+add-t19 : tie.Need-add-t19 Inv-loop μ-loop
+add-t19 c =
+    let g = step (c .before .before .before .before .before) in
+    let good = c .before .before .before .before .before .before .before .before .before .before .before .before .before .before .before .before .good in
+    omega (arith, rest-long _ _ (c .before .before .before .before .before .before .before .before .before .before .before .before .loop .j) (g .line-rest))
+
+add-t22 : tie.Need-add-t22 Inv-loop μ-loop
+add-t22 c =
+    let g = step (c .before .before .before .before .before) in
+    let good = c .before .before .before .before .before .before .before .before .before .before .before .before .before .before .before .before .good in
+    omega (arith, rest-long _ _ (c .before .before .before .before .before .before .before .before .before .before .before .before .loop .j) (g .line-rest))
+
+returns-3 : tie.Need-returns-3 Inv-loop μ-loop
+returns-3 c =
+    field-extra _ _ _ _ _ _ _ _ _ _ (step (c .before .before .before .before .before)) _ (c .before .before .before .f .given .1) (c .before .if1 .taken) (c .if2 .left)
+
+add-t25 : tie.Need-add-t25 Inv-loop μ-loop
+add-t25 c =
+    let g = step (c .before .before .before .before .before) in
+    let good = c .before .before .before .before .before .before .before .before .before .before .before .before .before .before .before .before .good in
+    omega (arith, rest-long _ _ (c .before .before .before .before .before .before .before .before .before .before .before .before .loop .j) (g .line-rest))
+
+add-t26 : tie.Need-add-t26 Inv-loop μ-loop
+add-t26 c =
+    let g = step (c .before .before .before .before .before) in
+    let good = c .before .before .before .before .before .before .before .before .before .before .before .before .before .before .before .before .good in
+    omega (arith, rest-long _ _ (c .before .before .before .before .before .before .before .before .before .before .before .before .loop .j) (g .line-rest))
+
+returns-4 : tie.Need-returns-4 Inv-loop μ-loop
+returns-4 c =
+    field-missing _ _ _ _ _ _ _ _ _ _ (step (c .before .before .before .before .before)) _ (c .before .before .before .f .given .1) (c .before .if1 .left) (c .if3 .taken)
+
+add-i : tie.Need-add-i Inv-loop μ-loop
+add-i c = search needs
+
+add-i-2 : tie.Need-add-i-2 Inv-loop μ-loop
+add-i-2 c = search needs
+
+add-j : tie.Need-add-j Inv-loop μ-loop
+add-j c =
+    let g = step (c .before .before .before .before .before) in
+    let good = c .before .before .before .before .before .before .before .before .before .before .before .before .before .before .before .before .good in
+    omega (arith, rest-long _ _ (c .before .before .before .before .before .before .before .before .before .before .before .before .loop .j) (g .line-rest))
+
+add-j-2 : tie.Need-add-j-2 Inv-loop μ-loop
+add-j-2 c =
+    let g = step (c .before .before .before .before .before) in
+    let good = c .before .before .before .before .before .before .before .before .before .before .before .before .before .before .before .before .good in
+    omega (arith, rest-long _ _ (c .before .before .before .before .before .before .before .before .before .before .before .before .loop .j) (g .line-rest))
+
+loop-less : tie.Need-loop-less Inv-loop μ-loop
+loop-less c =
+    let g = step (c .before .before .before .before .before) in
+    omega (arith, rest-long _ _ (c .before .before .before .before .before .before .before .before .before .before .before .before .loop .i) (g .form-rest))
+
+loop-again : tie.Need-loop-again Inv-loop μ-loop
+loop-again c =
+    field-more _ _ _ _ _ _ _ _ _ _ (step (c .before .before .before .before .before)) _ (c .before .before .before .f .given .1) (c .before .if1 .left) (c .if3 .left)
+
+pub read-fields-spec : {M : Type 1} → statement M
+read-fields-spec =
+    tie.close
+    (tie.spec
+    Inv-loop
+    μ-loop
+    no-numbers-requires
+    loop-holds
+    rest-requires
+    rest-requires-2
+    first-at-requires
+    first-at-requires-2
+    front-requires
+    front-requires-2
+    take-field-requires
+    enum-known-f
+    enum-told
+    add-t15
+    returns
+    returns-2
+    add-t19
+    add-t22
+    returns-3
+    add-t25
+    add-t26
+    returns-4
+    add-i
+    add-i-2
+    add-j
+    add-j-2
+    loop-less
+    loop-again)

@@ -1,0 +1,139 @@
+use mathlib.Core.Path.{sym, ap, _∙_}
+use Rattle.scan.specs.Line.{problemLine}
+use Rattle.scan.proofs.LineLaws.{handed-on, first-field, line-empty, line-comment, line-problem, line-data, line-none}
+use borrow.Author.Needs.{needs}
+use Rattle.scan.proofs.line.read_line.Statement.{statement}
+use Rattle.scan.proofs.line.read_line.Tie as tie
+
+returns : tie.Need-returns
+returns c =
+    let args = c .before .before .before .before .args in
+    line-empty (args .problem .now) (args .data .now) (args .s .now) (c .if1 .taken)
+
+first-at-requires : tie.Need-first-at-requires
+first-at-requires c κs = search needs
+
+front-requires : tie.Need-front-requires
+front-requires c κs = search needs
+
+slice-aggregate-same-bytes : tie.Need-slice-aggregate-same-bytes
+slice-aggregate-same-bytes c = search needs
+
+same-bytes-requires : tie.Need-same-bytes-requires
+same-bytes-requires c κs = search needs
+
+returns-2 : tie.Need-returns-2
+returns-2 c =
+    let args = c .before .before .before .before .before .before .before .before .before .args in
+    let a = c .before in
+    let letter = first-field _ _ _ (a .before .before .before .first-at .ensures .0) (a .before .before .front .ensures) in
+    line-comment (args .problem .now) (args .data .now) (args .s .now) _ (a .before .before .before .before .if1 .left) letter (sym (a .same-bytes .ensures) ∙ c .if2 .taken)
+
+first-at-requires-2 : tie.Need-first-at-requires-2
+first-at-requires-2 c κs = search needs
+
+front-requires-2 : tie.Need-front-requires-2
+front-requires-2 c κs = search needs
+
+same-bytes-requires-2 : tie.Need-same-bytes-requires-2
+same-bytes-requires-2 c κs = search needs
+
+read-fields-requires : tie.Need-read-fields-requires
+read-fields-requires c κs = search needs
+
+enum-known-f : tie.Need-enum-known-f
+enum-known-f c = search needs
+
+enum-told : tie.Need-enum-told
+enum-told c = search needs
+
+data-line-requires : tie.Need-data-line-requires
+data-line-requires c κs = search needs
+
+returns-3 : tie.Need-returns-3
+returns-3 c =
+    let args = c .before .before .before .before .before .before .before .before .before .before .before .before .before .before .before .before .before .args in
+    let a = c .before .before .before .before .before .before .before .before .before in
+    let letter = first-field _ _ _ (a .before .before .before .first-at .ensures .0) (a .before .before .front .ensures) in
+    let b = c .before .before .before .before .before in
+    let not-c = sym (a .same-bytes .ensures) ∙ c .before .before .before .before .before .before .before .before .if2 .left in
+    let letter-p = first-field _ _ _ (b .before .before .first-at2 .ensures .0) (b .before .front2 .ensures) in
+    c .data-line .ensures ∙ (handed-on _ _ (c .before .enum-told .given .1) ∙ line-problem (args .problem .now) (args .data .now) (args .s .now) _ (a .before .before .before .before .if1 .left) letter not-c _ letter-p _ (sym (b .same-bytes2 .ensures) ∙ c .before .before .before .before .if3 .taken) (c .before .before .before .read-fields .ensures))
+
+returns-4 : tie.Need-returns-4
+returns-4 c =
+    let args = c .before .before .before .before .before .before .before .before .before .before .before .before .before .before .before .before .before .args in
+    let a = c .before .before .before .before .before .before .before .before .before in
+    let letter = first-field _ _ _ (a .before .before .before .first-at .ensures .0) (a .before .before .front .ensures) in
+    let b = c .before .before .before .before .before in
+    let not-c = sym (a .same-bytes .ensures) ∙ c .before .before .before .before .before .before .before .before .if2 .left in
+    let letter-p = first-field _ _ _ (b .before .before .first-at2 .ensures .0) (b .before .front2 .ensures) in
+    ap problemLine (sym (c .before .f .given .1)) ∙ line-problem (args .problem .now) (args .data .now) (args .s .now) _ (a .before .before .before .before .if1 .left) letter not-c _ letter-p _ (sym (b .same-bytes2 .ensures) ∙ c .before .before .before .before .if3 .taken) (c .before .before .before .read-fields .ensures)
+
+first-at-requires-3 : tie.Need-first-at-requires-3
+first-at-requires-3 c κs = search needs
+
+front-requires-3 : tie.Need-front-requires-3
+front-requires-3 c κs = search needs
+
+same-bytes-requires-3 : tie.Need-same-bytes-requires-3
+same-bytes-requires-3 c κs = search needs
+
+read-fields-requires-2 : tie.Need-read-fields-requires-2
+read-fields-requires-2 c κs = search needs
+
+data-line-requires-2 : tie.Need-data-line-requires-2
+data-line-requires-2 c κs = search needs
+
+returns-5 : tie.Need-returns-5
+returns-5 c =
+    let args = c .before .before .before .before .before .before .before .before .before .before .before .before .before .before .before .before .before .before .before .args in
+    let a = c .before .before .before .before .before .before .before .before .before .before .before in
+    let letter = first-field _ _ _ (a .before .before .before .first-at .ensures .0) (a .before .before .front .ensures) in
+    let b = c .before .before .before .before .before .before .before in
+    let not-c = sym (a .same-bytes .ensures) ∙ c .before .before .before .before .before .before .before .before .before .before .if2 .left in
+    let letter-p = first-field _ _ _ (b .before .before .first-at2 .ensures .0) (b .before .front2 .ensures) in
+    let d = c .before .before .before in
+    let not-p = sym (b .same-bytes2 .ensures) ∙ c .before .before .before .before .before .before .if3 .left in
+    let letter-q = first-field _ _ _ (d .before .before .first-at3 .ensures .0) (d .before .front3 .ensures) in
+    c .data-line2 .ensures ∙ line-data (args .problem .now) (args .data .now) (args .s .now) _ (a .before .before .before .before .if1 .left) letter not-c _ letter-p not-p _ letter-q _ (sym (d .same-bytes3 .ensures) ∙ c .before .before .if4 .taken) (c .before .read-fields2 .ensures)
+
+returns-6 : tie.Need-returns-6
+returns-6 c =
+    let args = c .before .before .before .before .before .before .before .before .before .before .before .before .before .before .before .before .before .args in
+    let a = c .before .before .before .before .before .before .before .before .before in
+    let letter = first-field _ _ _ (a .before .before .before .first-at .ensures .0) (a .before .before .front .ensures) in
+    let b = c .before .before .before .before .before in
+    let not-c = sym (a .same-bytes .ensures) ∙ c .before .before .before .before .before .before .before .before .if2 .left in
+    let letter-p = first-field _ _ _ (b .before .before .first-at2 .ensures .0) (b .before .front2 .ensures) in
+    let d = c .before in
+    let not-p = sym (b .same-bytes2 .ensures) ∙ c .before .before .before .before .if3 .left in
+    let letter-q = first-field _ _ _ (d .before .before .first-at3 .ensures .0) (d .before .front3 .ensures) in
+    line-none (args .problem .now) (args .data .now) (args .s .now) _ (a .before .before .before .before .if1 .left) letter not-c _ letter-p not-p _ letter-q (sym (d .same-bytes3 .ensures) ∙ c .if4 .left)
+
+pub read-line-spec : {M : Type 1} → statement M
+read-line-spec =
+    tie.close
+    (tie.spec
+    returns
+    first-at-requires
+    front-requires
+    slice-aggregate-same-bytes
+    same-bytes-requires
+    returns-2
+    first-at-requires-2
+    front-requires-2
+    same-bytes-requires-2
+    read-fields-requires
+    enum-known-f
+    enum-told
+    data-line-requires
+    returns-3
+    returns-4
+    first-at-requires-3
+    front-requires-3
+    same-bytes-requires-3
+    read-fields-requires-2
+    data-line-requires-2
+    returns-5
+    returns-6)
