@@ -1,8 +1,8 @@
 -- What the loops of `drawing` leave is what the statements say: tight and updated boxes, and the first missed node. Assumes nothing.
-use Prim.Native.Nat.{ℕ, _≤_, _<_}
-use mathlib.Core.Path.{_≡_, refl, sym, ap, _∙_}
+use Prim.Native.Nat.{ℕ, _≤_}
+use mathlib.Core.Path.{_≡_, sym, ap, _∙_}
 use mathlib.Core.Logic.{_⊎_, inl, inr, ⊎-elim}
-use mathlib.Core.Bool.{Bool, true, false, not, false≢true, true≢false}
+use mathlib.Core.Bool.{Bool, true, false, not, false≢true}
 use mathlib.Core.List.{List, []}
 use native.Mathlib.Omega.{arith}
 use native.Mathlib.Decide.{decLe}
@@ -31,7 +31,7 @@ use Rattle.boxwork.specs.Judge.{updateJudged}
 use Rattle.boxwork.specs.Says.{UpdateSays, reweighted}
 use Rattle.boxwork.specs.JudgeLaws.{build-fine, check-fine, update-fine, sound-reweighted}
 use Rattle.boxwork.specs.TightLaws.{inS-range}
-use Rattle.boxwork.specs.Tight.{PlaceOf, PlaceOfS, Tight, Updated, HoldsNode}
+use Rattle.boxwork.specs.Tight.{PlaceOfS, Tight, Updated, HoldsNode}
 
 -- the heads of sound rows are nodes
 pub heads-nodes : {n m k j : ℕ} {R : Rows} → Sound n m R → n ≤ k → j ≤ m → Nodes k j (R .heads)
@@ -51,11 +51,11 @@ with-smallest s h = record {
 module _ {n m : ℕ} {R : Rows} (sound : Sound n m R) where
   -- ---- S(e) by the lengths
 
-  leads-inS : (t e : ℕ) → 1 ≤ t → t ≤ n → 1 ≤ e → e ≤ m → leadsTo R n m t e ≡ true → InS (network m R) e t
+  pub leads-inS : (t e : ℕ) → 1 ≤ t → t ≤ n → 1 ≤ e → e ≤ m → leadsTo R n m t e ≡ true → InS (network m R) e t
   unfolding leadsAt lengthsTo
   leads-inS t e a b c d p = test-inS sound a b e c d p
 
-  inS-leads : (t e : ℕ) → 1 ≤ t → t ≤ n → 1 ≤ e → e ≤ m → InS (network m R) e t → leadsTo R n m t e ≡ true
+  pub inS-leads : (t e : ℕ) → 1 ≤ t → t ≤ n → 1 ≤ e → e ≤ m → InS (network m R) e t → leadsTo R n m t e ≡ true
   unfolding leadsAt lengthsTo
   inS-leads t e a b c d i = inS-test sound a b e c d i
 
@@ -87,9 +87,9 @@ module _ {n m : ℕ} {R : Rows} (sound : Sound n m R) where
           tight = _;
           is-tight = tight-made;
           smallest = with-smallest (tight-made .smallest) (smallest-same
-            (λ px py. ⊎-elim (⊎-elim inl (λ h. inr (inl h))) (λ h. inr (inr h)))
-            (λ px py. ⊎-elim (λ h. inl (inl h)) (⊎-elim (λ h. inl (inr h)) inr))
-            (led-same made));
+              (λ px py. ⊎-elim (⊎-elim inl (λ h. inr (inl h))) (λ h. inr (inr h)))
+              (λ px py. ⊎-elim (λ h. inl (inl h)) (⊎-elim (λ h. inl (inr h)) inr))
+              (led-same made));
         }
 
   module _ (x y : List ℤ) {before mid after : List ℤ} (grown-all : Drawn m (GrownAll (leadsTo R n m) x y n) mid after) where
@@ -126,11 +126,11 @@ module _ {n m : ℕ} {R : Rows} (sound : Sound n m R) where
     missed-first {e} {t} l = record {
       misses = missed-yes t e (l .node-low) (l .node-high) (l .arc-low) (l .arc-high) (l .passes);
       lowest-arc = λ i j h.
-        let r = inS-range sound (h .member) in
-        elim (decLe e i) [ yes q ↦ q | no q ↦ absurd (h .refused (missed-no j i (l .arc-first j i (r .2) (r .3) (r .0) (omega arith)) (h .member))) ];
+          let r = inS-range sound (h .member) in
+          elim (decLe e i) [ yes q ↦ q | no q ↦ absurd (h .refused (missed-no j i (l .arc-first j i (r .2) (r .3) (r .0) (omega arith)) (h .member))) ];
       lowest-node = λ j h.
-        let r = inS-range sound (h .member) in
-        elim (decLe t j) [ yes q ↦ q | no q ↦ absurd (h .refused (missed-no j e (l .node-first j (r .2) (omega arith)) (h .member))) ];
+          let r = inS-range sound (h .member) in
+          elim (decLe t j) [ yes q ↦ q | no q ↦ absurd (h .refused (missed-no j e (l .node-first j (r .2) (omega arith)) (h .member))) ];
     }
 
     pub missed-none : ((t e : ℕ) → 1 ≤ t → t ≤ n → 1 ≤ e → e ≤ m → missesB R n m boxes x y t e ≡ false) → Consistent (network m R) (HoldsNode x y boxes)

@@ -1,35 +1,33 @@
 -- Searches in two networks that answer alike agree in what they say. Assumes nothing.
-use Prim.Native.Nat.{ℕ, _≤_}
-use mathlib.Core.Path.{_≡_, refl, sym, ap, _∙_}
-use mathlib.Core.Bool.{Bool, true, _&&_}
-use mathlib.Core.List.{List, [], _∷_, _++_}
+use Prim.Native.Nat.{ℕ}
+use mathlib.Core.Path.{_≡_, refl, sym, _∙_}
+use mathlib.Core.Bool.{_&&_}
+use mathlib.Core.List.{List, [], _∷_}
 use native.Mathlib.Omega.{arith}
-use borrow.Author.Tests.{le-leb}
 use lib.IntN.{ℤ}
-use lib.ListN.{length, drop}
+use lib.ListN.{length}
 use lib.Dec.{leb}
 use Rattle.rules.specs.Paper.{Reply, accepted, refusal}
-use Rattle.rules.specs.Judging.{orElse, each}
+use Rattle.rules.specs.Judging.{each}
 use Rattle.rules.specs.declared.Judged.{Judged}
 use Rattle.rules.specs.declared.Judged.the-variants.{Fine}
 use Rattle.rules.specs.declared.Refusal.{Refusal}
 use Rattle.rules.specs.declared.Refusal.the-variants.{NoWalk, BadCoordinate, BadBox}
 use Rattle.walks.specs.Walk.{Net}
 use Rattle.walks.specs.Rows.{Rows}
-use Rattle.walks.specs.Least.{Reached}
 use Rattle.walks.specs.LeastLaws.{best-length, best-count}
 use Rattle.walks.specs.RouteLaws.{route-unique}
 use Rattle.walks.specs.Pruning.{SameAnswers}
 use Rattle.geometry.specs.Row.{goodPlace, goodBox}
 use Rattle.settling.specs.Choice.{and-yes}
-use Rattle.search.specs.Judge.{boxRowsLong, networkJudged, ends, searchJudged, boxedJudged}
+use Rattle.search.specs.Judge.{boxRowsLong, networkJudged, searchJudged, boxedJudged}
 use Rattle.search.specs.JudgeLaws.{both-fine, search-judged, boxed-judged, network-fine}
 use Rattle.search.specs.Says.{Answers, found, none, Says, refused, answered}
 use Rattle.boxwork.specs.Judge.{buildJudged, checkJudged}
 use Rattle.boxwork.specs.JudgeLaws.{build-judged, check-judged}
 
--- Two searches agree: the same length, arc count and route, which stands in rows that are the same; or 12 together; or both are
--- refused for the same reason. Settled counts may differ.
+-- Two searches agree: the same length d, arc count k and route, which stands in rows that are the same; or 12 together; or both are
+-- refused for the same reason. Their settled counts c may differ.
 pub data Agree : Reply → List ℕ → Reply → List ℕ → Type 0 where
   same-route : {d k c c′ : ℕ} {row : List ℕ} → Agree (accepted (d ∷ k ∷ c ∷ [])) row (accepted (d ∷ k ∷ c′ ∷ [])) row
   no-walk : {c c′ : ℕ} {row : List ℕ} → Agree (refusal (NoWalk c)) row (refusal (NoWalk c′)) row

@@ -1,7 +1,7 @@
 -- What was judged in parts is judged whole; what is judged fine is sound, and the other way round. Assumes nothing.
-use Prim.Native.Nat.{ℕ, _-_, _*_, _≤_, _<_}
+use Prim.Native.Nat.{ℕ, _-_, _*_, _≤_}
 use mathlib.Core.Path.{_≡_, refl, sym, ap, _∙_}
-use mathlib.Core.Bool.{Bool, true, false, _&&_}
+use mathlib.Core.Bool.{Bool, true, _&&_}
 use mathlib.Core.List.{List, [], _∷_, _++_}
 use native.Mathlib.Omega.{arith}
 use native.Mathlib.Decide.{ℕ-discrete}
@@ -13,10 +13,9 @@ use lib.Dec.{leb}
 use Rattle.rules.specs.Judging.{orElse, inTurn, passes, each, each-passes, each-fine}
 use Rattle.rules.specs.declared.Judged.{Judged}
 use Rattle.rules.specs.declared.Judged.the-variants.{Fine, Refused}
-use Rattle.rules.specs.declared.Refusal.{Refusal}
-use Rattle.rules.specs.declared.Refusal.the-variants.{RowTooShort, BeyondLimits, BadArc, BadCoordinate, BadBox, NotInNetwork}
+use Rattle.rules.specs.declared.Refusal.the-variants.{BeyondLimits, BadCoordinate, BadBox, NotInNetwork}
 use Rattle.walks.specs.Rows.{Rows, Sound, SoundArc, at}
-use Rattle.geometry.specs.Box.{Within, WellShaped, withinB, wellShapedB}
+use Rattle.geometry.specs.Box.{Within, WellShaped}
 use Rattle.geometry.specs.Row.{coordinate, boxOf, goodPlace, goodBox}
 use Rattle.geometry.proofs.Tests.{place-yes, yes-within, shaped-yes, yes-shaped}
 use Rattle.settling.specs.Choice.{and-true, and-yes}
@@ -130,8 +129,8 @@ module _ {n m : ℕ} {R : Rows} (sound : Sound n m R) (arc weight : ℕ) (low : 
     heads-long = sound .heads-long;
     weights-long = simp length-set (sound .weights-long);
     arcs = λ e e-low e-high.
-      let a = sound .arcs e e-low e-high in
-      record { tail-low = a .tail-low; tail-high = a .tail-high; head-low = a .head-low; head-high = a .head-high; weight-high = weight-light e e-low e-high };
+        let a = sound .arcs e e-low e-high in
+        record { tail-low = a .tail-low; tail-high = a .tail-high; head-low = a .head-low; head-high = a .head-high; weight-high = weight-light e e-low e-high };
   }
 
   pub lent-reweighted : {x y boxes : List ℤ} → Lent n m R x y boxes → Lent n m (reweighted R arc weight) x y boxes

@@ -1,32 +1,27 @@
 -- Surplus is neither read nor written: build, check and update are those over the rows cut to the places that are needed, and the
 -- places beyond keep their contents. Assumes nothing.
-use Prim.Native.Nat.{ℕ, zero, suc, _+_, _-_, _*_, _≤_, _<_, min}
+use Prim.Native.Nat.{ℕ, zero, suc, _+_, _-_, _*_, _≤_, min}
 use mathlib.Core.Path.{_≡_, refl, sym, ap, _∙_, subst}
-use mathlib.Core.Logic.{_⊎_, inl, inr, ⊎-elim}
-use mathlib.Core.Bool.{Bool, _&&_}
+use mathlib.Core.Logic.{inl, inr, ⊎-elim}
 use mathlib.Core.List.{List, [], _∷_}
 use native.Mathlib.Omega.{arith}
-use native.Mathlib.Decide.{decLt}
 use lib.IntN.{ℤ, pos}
-use lib.ListN.{length, getD, take, drop, length-take, length-drop}
-use lib.Seq.{getD-take, getD-drop, ext-getD, take-set-lt, drop-set-lt}
+use lib.ListN.{length, take, drop, length-take, length-drop}
+use lib.Seq.{getD-drop, ext-getD, take-set-lt, drop-set-lt}
 use Rattle.rules.specs.Paper.{Reply}
-use Rattle.rules.specs.Judging.{each}
-use Rattle.rules.specs.declared.Refusal.the-variants.{BadCoordinate, BadBox}
-use Rattle.walks.specs.Walk.{Net}
 use Rattle.walks.specs.Rows.{Rows, Sound, network}
-use Rattle.walks.specs.Through.{InS, Consistent}
-use Rattle.walks.specs.Checking.{Misses, FirstMissed}
-use Rattle.geometry.specs.Box.{Box, Holds, wellShapedB}
-use Rattle.geometry.specs.Row.{coordinate, number, boxOf, goodPlace, goodBox}
+use Rattle.walks.specs.Through.{InS}
+use Rattle.walks.specs.Checking.{Misses}
+use Rattle.geometry.specs.Box.{Box}
+use Rattle.geometry.specs.Row.{number, boxOf}
 use Rattle.geometry.proofs.SmallestLaws.{smallest-same}
-use Rattle.search.specs.Alike.{Alike, other-way, inS-alike}
+use Rattle.search.specs.Alike.{other-way, inS-alike}
 use Rattle.search.specs.Cut.{cut, place-cut, box-cut, arc-rows-cut, arcs-cut, network-cut, box-rows-cut, places-cut, boxes-cut}
 use Rattle.drawing.specs.Drawn.{Drawn}
-use Rattle.boxwork.specs.Tight.{PlaceOf, PlaceOfS, Tight, Updated, HoldsNode}
+use Rattle.boxwork.specs.Tight.{PlaceOf, Tight, Updated, HoldsNode}
 use Rattle.boxwork.specs.TightLaws.{inS-range}
 use Rattle.boxwork.specs.Judge.{buildJudged, checkJudged, updateJudged}
-use Rattle.boxwork.specs.JudgeLaws.{Lent, build-fine, check-fine, update-fine, sound-reweighted}
+use Rattle.boxwork.specs.JudgeLaws.{build-fine, check-fine, update-fine, sound-reweighted}
 use Rattle.boxwork.specs.Says.{BuildSays, CheckSays, UpdateSays, reweighted}
 use Rattle.boxwork.specs.SaysLaws.{build-unique, check-unique, update-unique}
 
@@ -50,8 +45,8 @@ drawn-cut : {Is Js : ℕ → Box → Box → Type 0} {m : ℕ} {before after : L
 drawn-cut {Js = Js} {m = m} {before = before} {after = after} h d = (
   record {
     boxes = λ e low high.
-      subst (λ (b : Box). Js e b (boxOf (take (4 * m) after) e)) (sym (box-cut m before e low high))
-      (subst (Js e (boxOf before e)) (sym (box-cut m after e low high)) (h e low high (d .boxes e low high)));
+        subst (λ (b : Box). Js e b (boxOf (take (4 * m) after) e)) (sym (box-cut m before e low high))
+        (subst (Js e (boxOf before e)) (sym (box-cut m after e low high)) (h e low high (d .boxes e low high)));
     rest = λ i h. past-cut (4 * m) after i h ∙ sym (past-cut (4 * m) before i h);
     long = length-take (4 * m) after ∙ (ap (λ (l : ℕ). min (4 * m) l) (d .long) ∙ sym (length-take (4 * m) before));
   },
@@ -86,13 +81,13 @@ module _ {n m : ℕ} {R : Rows} (sound : Sound n m R) (x y : List ℤ) where
     pub tight-cut : {b : Box} → Tight (network m R) x y e b → Tight (network m (cut m R)) (take n x) (take n y) e b
     tight-cut p = record {
       smallest = smallest-same
-        (λ px py. ⊎-elim
-        (λ h. inl (subst (λ (v : ℕ). PlaceOf (take n x) (take n y) v px py) head-same (place-there _ head-low head-high h)))
-        (λ s. let r = inS-range sound (s .member) in inr (record { node = s .node; member = inS-alike (network-cut m R) (s .member); place = place-there (s .node) (r .2) (r .3) (s .place) })))
-        (λ px py. ⊎-elim
-        (λ h. inl (place-back _ head-low head-high (subst (λ (v : ℕ). PlaceOf (take n x) (take n y) v px py) (sym head-same) h)))
-        (λ s. let i = inS-back (s .member) in let r = inS-range sound i in inr (record { node = s .node; member = i; place = place-back (s .node) (r .2) (r .3) (s .place) })))
-        (p .smallest);
+          (λ px py. ⊎-elim
+          (λ h. inl (subst (λ (v : ℕ). PlaceOf (take n x) (take n y) v px py) head-same (place-there _ head-low head-high h)))
+          (λ s. let r = inS-range sound (s .member) in inr (record { node = s .node; member = inS-alike (network-cut m R) (s .member); place = place-there (s .node) (r .2) (r .3) (s .place) })))
+          (λ px py. ⊎-elim
+          (λ h. inl (place-back _ head-low head-high (subst (λ (v : ℕ). PlaceOf (take n x) (take n y) v px py) (sym head-same) h)))
+          (λ s. let i = inS-back (s .member) in let r = inS-range sound i in inr (record { node = s .node; member = i; place = place-back (s .node) (r .2) (r .3) (s .place) })))
+          (p .smallest);
     }
 
     pub updated-cut : {old new : Box} → Updated (network m R) x y e old new → Updated (network m (cut m R)) (take n x) (take n y) e old new
@@ -170,12 +165,12 @@ module _
     (rows : cut m R ≡ cut m R′) (ex : take n x ≡ take n x′) (ey : take n y ≡ take n y′) (eb : take (4 * m) boxes ≡ take (4 * m) boxes′)
     {reply reply′ : Reply}
   where
-  pub build-surplus : {after after′ : List ℤ} → BuildSays n m R x y boxes reply after → BuildSays n m R′ x′ y′ boxes′ reply′ after′ → (reply ≡ reply′) × (take (4 * m) after ≡ take (4 * m) after′)
-  build-surplus p q = build-unique (rw (rows, ex, ey, eb) at (build-cut p .0)) (build-cut q .0)
+    pub build-surplus : {after after′ : List ℤ} → BuildSays n m R x y boxes reply after → BuildSays n m R′ x′ y′ boxes′ reply′ after′ → (reply ≡ reply′) × (take (4 * m) after ≡ take (4 * m) after′)
+    build-surplus p q = build-unique (rw (rows, ex, ey, eb) at (build-cut p .0)) (build-cut q .0)
 
-  pub check-surplus : CheckSays n m R x y boxes reply → CheckSays n m R′ x′ y′ boxes′ reply′ → reply ≡ reply′
-  check-surplus p q = check-unique (rw (rows, ex, ey, eb) at (check-cut p)) (check-cut q)
+    pub check-surplus : CheckSays n m R x y boxes reply → CheckSays n m R′ x′ y′ boxes′ reply′ → reply ≡ reply′
+    check-surplus p q = check-unique (rw (rows, ex, ey, eb) at (check-cut p)) (check-cut q)
 
-  pub update-surplus : {arc weight : ℕ} {weights weights′ : List ℕ} {after after′ : List ℤ} → UpdateSays n m R x y boxes arc weight reply weights after → UpdateSays n m R′ x′ y′ boxes′ arc weight reply′ weights′ after′
-      → (reply ≡ reply′) × (take m weights ≡ take m weights′) × (take (4 * m) after ≡ take (4 * m) after′)
-  update-surplus p q = update-unique (rw (rows, ex, ey, eb) at (update-cut p .0)) (update-cut q .0)
+    pub update-surplus : {arc weight : ℕ} {weights weights′ : List ℕ} {after after′ : List ℤ} → UpdateSays n m R x y boxes arc weight reply weights after → UpdateSays n m R′ x′ y′ boxes′ arc weight reply′ weights′ after′
+        → (reply ≡ reply′) × (take m weights ≡ take m weights′) × (take (4 * m) after ≡ take (4 * m) after′)
+    update-surplus p q = update-unique (rw (rows, ex, ey, eb) at (update-cut p .0)) (update-cut q .0)

@@ -1,10 +1,9 @@
 -- Laws of tight and updated boxes: there is one only, it holds S(e), and it is well shaped. Assumes nothing.
 use Prim.Native.Nat.{ℕ, _≤_}
-use mathlib.Core.Path.{_≡_, refl, sym, subst}
+use mathlib.Core.Path.{_≡_, refl, subst}
 use mathlib.Core.Logic.{_⊎_, inl, inr, ⊎-elim}
 use mathlib.Core.List.{List}
 use lib.IntN.{ℤ}
-use lib.Signed.{_≤ℤ_}
 use Rattle.rules.specs.Limits.{leastCoordinate, mostCoordinate}
 use Rattle.walks.specs.Walk.{Net}
 use Rattle.walks.specs.Rows.{Rows, Sound, network}
@@ -14,7 +13,7 @@ use Rattle.geometry.specs.Box.{Box, Holds, Within, Upright, WellShaped, Smalles
 use Rattle.geometry.specs.Row.{coordinate}
 use Rattle.geometry.proofs.Order.{≤ℤ-trans}
 use Rattle.geometry.proofs.SmallestLaws.{smallest-unique, low-corner, high-corner}
-use Rattle.boxwork.specs.Tight.{PlaceOf, PlaceOfS, Tight, Updated}
+use Rattle.boxwork.specs.Tight.{Tight, Updated}
 
 -- S(e) of sound rows is of an arc of 1..m, and has nodes of 1..n only
 pub inS-range : {n m : ℕ} {R : Rows} {e t : ℕ} → Sound n m R → InS (network m R) e t → (1 ≤ e) × (e ≤ m) × (1 ≤ t) × (t ≤ n)
@@ -82,14 +81,14 @@ module _ {N : Net} {x y : List ℤ} {e : ℕ} where
 
   -- where the places of the head and of S(e) are within limits
   module _ (head : Within (coordinate x (N .head e)) × Within (coordinate y (N .head e)))
-    (nodes : (t : ℕ) → InS N e t → Within (coordinate x t) × Within (coordinate y t))
+      (nodes : (t : ℕ) → InS N e t → Within (coordinate x t) × Within (coordinate y t))
     where
-    pub tight-shaped : {b : Box} → Tight N x y e b → WellShaped b
-    tight-shaped p =
-        smallest-shaped (tight-upright p) (p .smallest) (λ px py. ⊎-elim
-        (λ h. rw (h .0, h .1) (in-limits (head .0) (head .1)))
-        (λ s. let w = nodes (s .node) (s .member) in rw (s .place .0, s .place .1) (in-limits (w .0) (w .1))))
+      pub tight-shaped : {b : Box} → Tight N x y e b → WellShaped b
+      tight-shaped p =
+          smallest-shaped (tight-upright p) (p .smallest) (λ px py. ⊎-elim
+          (λ h. rw (h .0, h .1) (in-limits (head .0) (head .1)))
+          (λ s. let w = nodes (s .node) (s .member) in rw (s .place .0, s .place .1) (in-limits (w .0) (w .1))))
 
-    pub updated-shaped : {old new : Box} → WellShaped old → Updated N x y e old new → WellShaped new
-    updated-shaped w p =
-        smallest-shaped (updated-upright p) (p .smallest) (λ px py. ⊎-elim (shaped-limits w px py) (shaped-limits (tight-shaped (p .is-tight)) px py))
+      pub updated-shaped : {old new : Box} → WellShaped old → Updated N x y e old new → WellShaped new
+      updated-shaped w p =
+          smallest-shaped (updated-upright p) (p .smallest) (λ px py. ⊎-elim (shaped-limits w px py) (shaped-limits (tight-shaped (p .is-tight)) px py))

@@ -29,16 +29,7 @@ pub fn build(
         return j;
     };
     drawing::grow::start_all(m as usize, heads, x, y, boxes);
-    drawing::grow::grow_all(
-        n as usize,
-        m as usize,
-        tails,
-        heads,
-        weights,
-        x,
-        y,
-        boxes,
-    );
+    drawing::grow::grow_all(n as usize, m as usize, tails, heads, weights, x, y, boxes);
     Judged::Fine
 }
 
@@ -98,32 +89,12 @@ pub fn update(
 ) -> Judged
     ensures { λ r. ⌜ UpdateSays n m (rows (now (tails .entry)) (now (heads .entry)) (now (weights .entry))) (now (x .entry)) (now (y .entry)) (now (boxes .entry)) arc weight (judgedReply r) (now (weights .exit)) (now (boxes .exit)) ⌝ }
 {
-    let j = judge::judge_update(
-        n,
-        m,
-        tails,
-        heads,
-        weights,
-        x,
-        y,
-        boxes,
-        arc,
-        weight,
-    );
+    let j = judge::judge_update(n, m, tails, heads, weights, x, y, boxes, arc, weight);
     let Judged::Fine = j else {
         return j;
     };
     set_weight(weights, arc, weight);
     drawing::grow::grow_heads(m as usize, heads, x, y, boxes);
-    drawing::grow::grow_all(
-        n as usize,
-        m as usize,
-        tails,
-        heads,
-        weights,
-        x,
-        y,
-        boxes,
-    );
+    drawing::grow::grow_all(n as usize, m as usize, tails, heads, weights, x, y, boxes);
     Judged::Fine
 }

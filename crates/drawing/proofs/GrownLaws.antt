@@ -1,6 +1,6 @@
 -- A box grown by places is the smallest that holds what it held and those. Assumes nothing.
 use Prim.Native.Nat.{ℕ, zero, suc, _≤_}
-use mathlib.Core.Path.{_≡_, refl}
+use mathlib.Core.Path.{_≡_}
 use mathlib.Core.Logic.{_⊎_, inl, inr, ⊎-elim}
 use mathlib.Core.Bool.{Bool, true, false, false≢true}
 use mathlib.Core.List.{List}
@@ -47,14 +47,14 @@ module _ (leads : ℕ → Bool) (x y : List ℤ) {P : ℤ → ℤ → Type 0} {b
       (λ yes. (
         grown-upright u v (old .0),
         smallest-same
-        (λ px py. ⊎-elim (⊎-elim inl (λ h. inr (longer h))) (λ h. inr (record { node = suc t; low = omega arith; high = omega arith; leading = yes; place = h })))
-        (λ px py. ⊎-elim (λ p. inl (inl p)) (λ h. ⊎-elim (λ k. inl (inr k)) (λ k. inr (k .1)) (last t h)))
-        (grown-smallest u v (old .0) (old .1)),
+            (λ px py. ⊎-elim (⊎-elim inl (λ h. inr (longer h))) (λ h. inr (record { node = suc t; low = omega arith; high = omega arith; leading = yes; place = h })))
+            (λ px py. ⊎-elim (λ p. inl (inl p)) (λ h. ⊎-elim (λ k. inl (inr k)) (λ k. inr (k .1)) (last t h)))
+            (grown-smallest u v (old .0) (old .1)),
       ))
       (λ not. (
         old .0,
         smallest-same
-        (λ px py. ⊎-elim inl (λ h. inr (longer h)))
-        (λ px py. ⊎-elim inl (λ h. ⊎-elim inr (λ k. absurd (let z : true ≡ false = cc in false≢true (cc))) (last t h)))
-        (old .1),
+            (λ px py. ⊎-elim inl (λ h. inr (longer h)))
+            (λ px py. ⊎-elim inl (λ h. ⊎-elim inr (λ k. absurd (let z : true ≡ false = cc in false≢true (cc))) (last t h)))
+            (old .1),
       ))

@@ -1,7 +1,7 @@
 -- The loops' steps: what one arc, and one node, adds. Assumes nothing.
 use Prim.Native.Nat.{ℕ, suc, _+_, _-_, _*_, _≤_, _<_}
-use mathlib.Core.Path.{_≡_, refl, sym, ap, _∙_}
-use mathlib.Core.Bool.{Bool, true, false, not, _&&_}
+use mathlib.Core.Path.{_≡_, refl, ap, _∙_}
+use mathlib.Core.Bool.{Bool, true, false}
 use mathlib.Core.List.{List}
 use native.Mathlib.Omega.{arith}
 use native.Mathlib.Decide.{ℕ-discrete}
@@ -91,6 +91,6 @@ first-arcs s k h = record {
   heads-long = omega (arith, s .heads-long);
   weights-long = omega (arith, s .weights-long);
   arcs = λ e low high.
-    let a = s .arcs e low (omega arith) in
-    record { tail-low = a .tail-low; tail-high = omega (arith, s .nodes-high); head-low = a .head-low; head-high = omega (arith, s .nodes-high); weight-high = a .weight-high };
+      let a = s .arcs e low (omega arith) in
+      record { tail-low = a .tail-low; tail-high = omega (arith, s .nodes-high); head-low = a .head-low; head-high = omega (arith, s .nodes-high); weight-high = a .weight-high };
 }

@@ -1,10 +1,9 @@
 // Boxes compared with the places that they must hold.
-ghost use mathlib.Core.Path.{_≡_};
 ghost use Prim.Native.Nat.{_*_, _≤_};
 ghost use lib.ListN.{length};
 ghost use Rattle.walks.specs.Rows.{Sound};
 ghost use Rattle.settling.specs.Toward.{rows};
-ghost use Rattle.drawing.specs.Leads.{leadsAt, leadsTo};
+ghost use Rattle.drawing.specs.Leads.{leadsAt};
 ghost use Rattle.drawing.specs.Missed.{missB, missesB, Clear, FirstOf};
 use crate::grow::leads;
 

@@ -1,5 +1,5 @@
 -- `boxwork::judge::judge_check` meets its contract: each refusal is handed on as it came. Assumes nothing.
-use mathlib.Core.Path.{_≡_, sym, _∙_}
+use mathlib.Core.Path.{sym, _∙_}
 use borrow.Author.Needs.{needs}
 use Rattle.search.proofs.Turns.{out, on}
 use Rattle.boxwork.specs.JudgeLaws.{build-fine, check-judged}

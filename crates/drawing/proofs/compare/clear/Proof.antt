@@ -1,17 +1,17 @@
 -- `drawing::compare::clear` meets its contract. The loop's invariant: the boxes of the arcs up to e miss nothing. Assumes nothing.
-use Prim.Native.Nat.{ℕ, _+_, _-_, _*_, _≤_, _<_}
+use Prim.Native.Nat.{ℕ, _-_, _≤_}
 use mathlib.Core.Path.{_≡_, sym, _∙_, ap}
-use mathlib.Core.Bool.{true, false, not}
+use mathlib.Core.Bool.{false, not}
 use native.Mathlib.Omega.{arith}
 use mir.Syntax.{w32}
-use mir.Val.{toZ, ofZ}
+use mir.Val.{toZ}
 use borrow.Author.Tests.{not-true, not-false}
 use Rattle.walks.specs.Rows.{arc-at}
 use Rattle.settling.specs.Choice.{and-yes, and-no}
 use Rattle.settling.specs.Toward.{rows}
 use Rattle.geometry.proofs.Signed.{back}
 use Rattle.drawing.specs.Leads.{leadsAt}
-use Rattle.drawing.specs.Missed.{missB, Clear}
+use Rattle.drawing.specs.Missed.{missB}
 use Rattle.drawing.proofs.Steps.{leads-next, clear-here, clear-all, fails-more}
 use Rattle.drawing.proofs.compare.clear.Statement.{statement}
 use Rattle.drawing.proofs.compare.clear.Tie as tie

@@ -1,6 +1,6 @@
 -- `drawing::compare::find_missed` meets its contract. The loop's invariant: the lowest arc and node among the nodes up to t. Assumes nothing.
-use Prim.Native.Nat.{ℕ, _+_, _-_, _*_, _≤_, _<_}
-use mathlib.Core.Path.{_≡_, refl, sym, _∙_, ap}
+use Prim.Native.Nat.{_-_, _≤_}
+use mathlib.Core.Path.{_≡_}
 use mathlib.Core.Logic.{⊎-elim}
 use native.Mathlib.Omega.{arith}
 use Rattle.settling.specs.Toward.{rows}

@@ -1,5 +1,5 @@
 -- `drawing::grow::grow_all` meets its contract. The loop's invariant: each box has grown by the nodes up to t. Assumes nothing.
-use Prim.Native.Nat.{ℕ, _+_, _-_, _*_, _≤_, _<_}
+use Prim.Native.Nat.{_-_, _≤_}
 use mathlib.Core.Path.{_≡_}
 use native.Mathlib.Omega.{arith}
 use Rattle.settling.specs.Toward.{rows}

@@ -1,12 +1,10 @@
 -- `drawing::grow::grow_toward` meets its contract. The loop's invariant: the boxes of the arcs up to e are drawn. Assumes nothing.
-use Prim.Native.Nat.{ℕ, _+_, _-_, _*_, _≤_, _<_}
-use mathlib.Core.Path.{_≡_, refl, sym, _∙_, ap}
+use Prim.Native.Nat.{_-_, _≤_}
+use mathlib.Core.Path.{_≡_, sym, _∙_}
 use mathlib.Core.Logic.{⊎-elim}
 use native.Mathlib.Omega.{arith}
 use mir.Syntax.{w32}
-use mir.Val.{toZ, ofZ}
-use borrow.Author.Needs.{needs}
-use lib.ListN.{length, getD}
+use mir.Val.{toZ}
 use Rattle.walks.specs.Rows.{arc-at}
 use Rattle.settling.specs.Toward.{rows}
 use Rattle.geometry.proofs.Signed.{back}
@@ -70,9 +68,9 @@ loop-again c =
     let R = rows (a .tails .now) (a .heads .now) (a .weights .now) in (
       omega arith,
       ⊎-elim
-      (λ w. grow-turn _ _ _ (l .inv .1) (leads-next R (a .lengths .now) (l .e) (told ∙ w .0 .taken)) (omega arith) (w .4 ∙ w .2 .ensures))
-      (λ w. skip-turn _ _ _ (l .inv .1) (leads-next R (a .lengths .now) (l .e) (told ∙ w .0 .left)) (w .1))
-      (c .if1 .came),
+          (λ w. grow-turn _ _ _ (l .inv .1) (leads-next R (a .lengths .now) (l .e) (told ∙ w .0 .taken)) (omega arith) (w .4 ∙ w .2 .ensures))
+          (λ w. skip-turn _ _ _ (l .inv .1) (leads-next R (a .lengths .now) (l .e) (told ∙ w .0 .left)) (w .1))
+          (c .if1 .came),
     )
 
 same-length : tie.Need-same-length Inv-loop μ-loop

@@ -1,0 +1,126 @@
+-- The plans of 01: the hall, and its other small networks. Assumes nothing.
+use Prim.Native.Nat.{ℕ, zero, suc}
+use mathlib.Core.List.{List, [], _∷_}
+use lib.IntN.{ℤ, pos, negsuc}
+use lib.ListN.{set, replicate}
+use Rattle.rules.specs.Limits.{leastCoordinate, mostCoordinate}
+use Rattle.walks.specs.Rows.{Rows}
+use Rattle.boxwork.specs.Says.{reweighted}
+
+pub record Plan : Type 0 where
+  pub nodes : ℕ
+  pub arcs : ℕ
+  pub rows : Rows
+  pub x : List ℤ
+  pub y : List ℤ
+
+-- net.gr and net.co
+unfoldable pub hall : Plan
+hall = record {
+  nodes = 4;
+  arcs = 6;
+  rows = record { tails = 1 ∷ 2 ∷ 1 ∷ 3 ∷ 1 ∷ 4 ∷ []; heads = 2 ∷ 3 ∷ 3 ∷ 4 ∷ 4 ∷ 1 ∷ []; weights = 3 ∷ 2 ∷ 5 ∷ 1 ∷ 9 ∷ 4 ∷ [] };
+  x = pos 0 ∷ pos 10 ∷ pos 10 ∷ negsuc 4 ∷ [];
+  y = pos 0 ∷ pos 0 ∷ pos 5 ∷ pos 20 ∷ [];
+}
+
+-- the hall with arc 5 reweighted to 6
+unfoldable pub reweightedHall : Plan
+reweightedHall = record { nodes = hall .nodes; arcs = hall .arcs; rows = reweighted (hall .rows) 5 6; x = hall .x; y = hall .y }
+
+-- two nodes, only arc 2 to 1
+unfoldable pub oneWay : Plan
+oneWay = record { nodes = 2; arcs = 1; rows = record { tails = 2 ∷ []; heads = 1 ∷ []; weights = 7 ∷ [] }; x = pos 0 ∷ pos 1 ∷ []; y = pos 0 ∷ pos 1 ∷ [] }
+
+-- arcs 1-2 and 2-1 of weight 0, 1-3 and 2-3 of weight 5
+unfoldable pub zeros : Plan
+zeros = record {
+  nodes = 3;
+  arcs = 4;
+  rows = record { tails = 1 ∷ 2 ∷ 1 ∷ 2 ∷ []; heads = 2 ∷ 1 ∷ 3 ∷ 3 ∷ []; weights = 0 ∷ 0 ∷ 5 ∷ 5 ∷ [] };
+  x = pos 0 ∷ pos 10 ∷ pos 20 ∷ [];
+  y = pos 0 ∷ pos 0 ∷ pos 0 ∷ [];
+}
+
+-- the same with an arc 3-4 behind it; node 4 lies apart, and the places of 1 and 2 between those of 3 and 4
+unfoldable pub behind : Plan
+behind = record {
+  nodes = 4;
+  arcs = 5;
+  rows = record { tails = 1 ∷ 2 ∷ 1 ∷ 2 ∷ 3 ∷ []; heads = 2 ∷ 1 ∷ 3 ∷ 3 ∷ 4 ∷ []; weights = 0 ∷ 0 ∷ 5 ∷ 5 ∷ 1 ∷ [] };
+  x = pos 10 ∷ pos 12 ∷ pos 0 ∷ pos 30 ∷ [];
+  y = pos 0 ∷ pos 1 ∷ pos 0 ∷ pos 5 ∷ [];
+}
+
+-- two nodes west of the origin, and an arc between them
+unfoldable pub west : Plan
+west = record {
+  nodes = 2;
+  arcs = 1;
+  rows = record { tails = 1 ∷ []; heads = 2 ∷ []; weights = 1 ∷ [] };
+  x = negsuc 9 ∷ negsuc 19 ∷ [];
+  y = negsuc 9 ∷ negsuc 4 ∷ [];
+}
+
+-- arcs 1-2, 2-3 and 1-3, each of weight 1
+unfoldable pub triangle : Plan
+triangle = record {
+  nodes = 3;
+  arcs = 3;
+  rows = record { tails = 1 ∷ 2 ∷ 1 ∷ []; heads = 2 ∷ 3 ∷ 3 ∷ []; weights = 1 ∷ 1 ∷ 1 ∷ [] };
+  x = pos 0 ∷ pos 10 ∷ pos 10 ∷ [];
+  y = pos 0 ∷ pos 0 ∷ pos 10 ∷ [];
+}
+
+-- its arc 3 reweighted to 5: now 1 to 3 goes through 2
+unfoldable pub detour : Plan
+detour = record { nodes = triangle .nodes; arcs = triangle .arcs; rows = reweighted (triangle .rows) 3 5; x = triangle .x; y = triangle .y }
+
+-- ---- Rows of boxes
+
+-- a box, and the rest of the row
+abbrev box : ℤ → ℤ → ℤ → ℤ → List ℤ → List ℤ
+box left right low high more = left ∷ right ∷ low ∷ high ∷ more
+
+-- the hall's tight boxes, as 01 prints them
+unfoldable pub hallBoxes : List ℤ
+hallBoxes =
+    box (negsuc 4) (pos 10) (pos 0) (pos 20)
+    (box (negsuc 4) (pos 10) (pos 0) (pos 20)
+    (box (negsuc 4) (pos 10) (pos 5) (pos 20)
+    (box (negsuc 4) (pos 10) (pos 0) (pos 20)
+    (box (negsuc 4) (negsuc 4) (pos 20) (pos 20)
+    (box (pos 0) (pos 10) (pos 0) (pos 5) [])))))
+
+-- arc 3's low raised to 6
+unfoldable pub raisedBoxes : List ℤ
+raisedBoxes = set hallBoxes 10 (pos 6)
+
+-- so many boxes at the full limits
+unfoldable pub fullBoxes : ℕ → List ℤ
+fullBoxes zero = []
+fullBoxes (suc k) = box leastCoordinate mostCoordinate leastCoordinate mostCoordinate (fullBoxes k)
+
+-- boxes from one tree per node, for `behind`: the tree from 1 goes to 3 and 4 through 2, and the tree from 2 through 1. Each holds its head.
+unfoldable pub treeBoxes : List ℤ
+treeBoxes =
+    box (pos 0) (pos 30) (pos 0) (pos 5)
+    (box (pos 0) (pos 30) (pos 0) (pos 5)
+    (box (pos 0) (pos 0) (pos 0) (pos 0)
+    (box (pos 0) (pos 0) (pos 0) (pos 0)
+    (box (pos 30) (pos 30) (pos 5) (pos 5) []))))
+
+-- the triangle's tight boxes, and those that an update of arc 3 to 5 leaves
+unfoldable pub triangleBoxes : List ℤ
+triangleBoxes = box (pos 10) (pos 10) (pos 0) (pos 0) (box (pos 10) (pos 10) (pos 10) (pos 10) (box (pos 10) (pos 10) (pos 10) (pos 10) []))
+
+unfoldable pub mendedBoxes : List ℤ
+mendedBoxes = box (pos 10) (pos 10) (pos 0) (pos 10) (box (pos 10) (pos 10) (pos 10) (pos 10) (box (pos 10) (pos 10) (pos 10) (pos 10) []))
+
+-- ---- Rows as they are lent: for six boxes, and for a route of four nodes
+
+abbrev pub blank : List ℤ
+blank = replicate 24 (pos 7)
+
+abbrev pub route : List ℕ
+route = 0 ∷ 0 ∷ 0 ∷ 0 ∷ []
