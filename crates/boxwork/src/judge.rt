@@ -53,7 +53,7 @@ fn judge_change(m: u32, arc: u32, weight: u32) -> Judged
     if !((1 <= arc) & (arc <= m)) {
         return Judged::Refused(Refusal::NotInNetwork);
     }
-    if !(weight <= 1000000) {
+    if !(weight <= rules::WEIGHT) {
         return Judged::Refused(Refusal::BeyondLimits { line: 0 });
     }
     Judged::Fine

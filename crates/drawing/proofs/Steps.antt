@@ -81,16 +81,14 @@ fails-more {test} {e} h p i low high = elim (ℕ-discrete i (e + 1)) [
   | no other ↦ h i low (omega arith)
 ]
 
--- rows of m arcs hold the first k of them, in a network of as many nodes as the label arrays have places
-pub first-arcs : {n m : ℕ} {R : Rows} → Sound n m R → (k : ℕ) → k ≤ m → Sound 512 k R
+-- rows of m arcs hold the first k of them
+pub first-arcs : {n m : ℕ} {R : Rows} → Sound n m R → (k : ℕ) → k ≤ m → Sound n k R
 first-arcs s k h = record {
-  nodes-low = omega arith;
-  nodes-high = omega arith;
+  nodes-low = s .nodes-low;
+  nodes-high = s .nodes-high;
   arcs-high = omega (arith, s .arcs-high);
   tails-long = omega (arith, s .tails-long);
   heads-long = omega (arith, s .heads-long);
   weights-long = omega (arith, s .weights-long);
-  arcs = λ e low high.
-      let a = s .arcs e low (omega arith) in
-      record { tail-low = a .tail-low; tail-high = omega (arith, s .nodes-high); head-low = a .head-low; head-high = omega (arith, s .nodes-high); weight-high = a .weight-high };
+  arcs = λ e low high. s .arcs e low (omega arith);
 }

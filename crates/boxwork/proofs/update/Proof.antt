@@ -5,6 +5,7 @@ use native.Mathlib.Omega.{arith}
 use borrow.Author.Needs.{needs}
 use Rattle.rules.specs.declared.Judged.the-variants.{Fine}
 use Rattle.settling.specs.Toward.{rows}
+use Rattle.drawing.proofs.Steps.{first-arcs}
 use Rattle.boxwork.specs.Says.{UpdateSays, reweighted}
 use Rattle.boxwork.specs.JudgeLaws.{Lent, build-fine, check-fine, update-fine, lent-reweighted}
 use Rattle.boxwork.proofs.Meaning.{heads-nodes, updated-says}
@@ -56,8 +57,9 @@ grow-heads-requires c κs =
 grow-all-requires : tie.Need-grow-all-requires
 grow-all-requires c κs =
     let s = c .before .before .before .before .before .before .before in
-    let l = fine (s .before .before .before .before) (s .before .before .enum-told .given .1) .3 in
-    (rw (s .set-weight .ensures) (l .sound), l .x-long, l .y-long, omega (arith, l .boxes-long, c .before .before .before .grow-heads .ensures .long))
+    let f = fine (s .before .before .before .before) (s .before .before .enum-told .given .1) in
+    let l = f .3 in
+    (rw (s .set-weight .ensures) (first-arcs (l .sound) _ (omega (arith, f .2))), l .x-long, l .y-long, omega (arith, f .2, l .boxes-long, c .before .before .before .grow-heads .ensures .long))
 
 same-length-3 : tie.Need-same-length-3
 same-length-3 c = search needs

@@ -4,6 +4,7 @@ use mathlib.Core.Path.{_≡_}
 use mathlib.Core.Logic.{⊎-elim}
 use native.Mathlib.Omega.{arith}
 use Rattle.settling.specs.Toward.{rows}
+use Rattle.settling.proofs.Widen.{widened}
 use Rattle.geometry.specs.Row.{number}
 use Rattle.geometry.proofs.Signed.{back}
 use Rattle.drawing.specs.Missed.{missesB}
@@ -44,7 +45,7 @@ clear-requires : tie.Need-clear-requires Inv-loop μ-loop
 clear-requires c κs =
     let s = c .before .before .before .before .before .before .before .before .before in
     let l = c .before .before .before .before .before .loop in
-    (first-arcs (s .pre .0) _ (l .inv .1 .most), omega (arith, l .inv .1 .most))
+    (widened (first-arcs (s .pre .0) _ (l .inv .1 .most)), omega (arith, l .inv .1 .most))
 
 add-node : tie.Need-add-node Inv-loop μ-loop
 add-node c = omega arith

@@ -3,12 +3,13 @@ use Prim.Native.Nat.{_-_, _≤_}
 use mathlib.Core.Path.{_≡_}
 use native.Mathlib.Omega.{arith}
 use Rattle.settling.specs.Toward.{rows}
+use Rattle.settling.proofs.Widen.{widened}
 use Rattle.geometry.specs.Row.{number}
 use Rattle.geometry.proofs.Signed.{back}
 use Rattle.drawing.specs.Leads.{leadsTo}
 use Rattle.drawing.specs.Drawn.{Drawn}
 use Rattle.drawing.specs.Grown.{GrownAll}
-use Rattle.drawing.proofs.Steps.{first-arcs, grown-none, node-turn}
+use Rattle.drawing.proofs.Steps.{grown-none, node-turn}
 use Rattle.drawing.proofs.grow.grow_all.Statement.{statement}
 use Rattle.drawing.proofs.grow.grow_all.Tie as tie
 
@@ -42,7 +43,7 @@ shared-slice-copy-out-grow-toward-2 c = omega arith
 grow-toward-requires : tie.Need-grow-toward-requires Inv-loop μ-loop
 grow-toward-requires c κs =
     let s = c .before .before .before .before .before .before .before .before .before .before in
-    (first-arcs (s .pre .0) _ (omega arith), omega (arith, c .before .before .before .before .before .before .loop .inv .1 .long))
+    (widened (s .pre .0), omega (arith, c .before .before .before .before .before .before .loop .inv .1 .long))
 
 add-t : tie.Need-add-t Inv-loop μ-loop
 add-t c = omega arith
