@@ -17,7 +17,7 @@ use Rattle.scan.specs.Held.{held, heldZ, heldNumbers, heldLine}
 use Rattle.scan.specs.declared.fields.Numbers.{Numbers}
 use Rattle.scan.specs.declared.line.Line.{Line}
 use Rattle.scan.specs.declared.line.Line.the-variants.{Comment, Problem, Data, Faulty}
-use Rattle.dimacs.specs.Rules.{noneAbove, within}
+use Rattle.dimacs.specs.Rules.{naturals, noneAbove, within}
 use Rattle.dimacs.specs.Gr.{grRules}
 use Rattle.dimacs.specs.Co.{coRules}
 use Rattle.dimacs.specs.Formats.{rulesOf}
@@ -28,9 +28,7 @@ use Rattle.dimacs.specs.declared.format.Rules.{Rules}
 use Rattle.dimacs.specs.declared.format.Format.{Format}
 use Rattle.dimacs.specs.declared.format.Format.the-variants.{Graph, Coordinates}
 use Rattle.dimacs.specs.declared.judge.Head.{Head}
-
-clash : false ≡ true → ⊥
-clash e = let z : _≡_ {A = ℕ} 0 1 = ap (λ (b : Bool). cond b 1 0) e in omega arith
+use Rattle.dimacs.proofs.Counting.{clash}
 
 pub both : (a b : Bool) → a && b ≡ true → (a ≡ true) × (b ≡ true)
 both true b e = (refl, e)
@@ -38,15 +36,18 @@ both false b e = absurd (clash e)
 
 -- ---- every format's rules
 
-modest : (ns : Numbers) → ns .first < 10_000_000 → ns .second < 10_000_000 → ns .third < 10_000_000 → Small (ns .x) → Small (ns .y) → Modest ns
-modest ns a b c x y = record { first = a; second = b; third = c; x = x; y = y }
+naturals-modest : (a b c : ℕ) → a < 10_000_000 → b < 10_000_000 → c < 10_000_000 → Modest (naturals a b c)
+naturals-modest a b c h i j = record { first = h; second = i; third = j; x = omega arith; y = omega arith }
 
 pub fair-of : (F : Format) → FormatFair F → (problem : Numbers) → problem .second ≤ 512 → Fair (rulesOf F problem)
 unfolding grRules coRules
 fair-of Graph f problem h =
     record {
-      problem = record { least = modest _ (omega arith) (omega arith) (omega arith) (omega arith) (omega arith); most = modest _ (omega arith) (omega arith) (omega arith) (omega arith) (omega arith) };
-      entries = record { least = modest _ (omega arith) (omega arith) (omega arith) (omega arith) (omega arith); most = modest _ (omega arith) (omega arith) (omega arith) (omega arith) (omega arith) };
+      problem = record { least = naturals-modest 0 1 0 (omega arith) (omega arith) (omega arith); most = naturals-modest 0 512 2048 (omega arith) (omega arith) (omega arith) };
+      entries = record {
+        least = naturals-modest 1 1 0 (omega arith) (omega arith) (omega arith);
+        most = naturals-modest (problem .second) (problem .second) 1_000_000 (omega arith) (omega arith) (omega arith);
+      };
       nodes = omega arith;
       count = omega arith;
       low = λ e. absurd (clash e);
@@ -55,8 +56,11 @@ fair-of Graph f problem h =
     }
 fair-of (Coordinates n) f problem h =
     record {
-      problem = record { least = modest _ (omega arith) (omega arith) (omega arith) (omega arith) (omega arith); most = modest _ (omega arith) (omega arith) (omega arith) (omega arith) (omega arith) };
-      entries = record { least = modest _ (omega arith) (omega arith) (omega arith) (omega arith) (omega arith); most = modest _ (omega arith) (omega arith) (omega arith) (omega arith) (omega arith) };
+      problem = record { least = naturals-modest 0 0 1 (omega arith) (omega arith) (omega arith); most = naturals-modest 0 0 512 (omega arith) (omega arith) (omega arith) };
+      entries = record {
+        least = record { first = omega arith; second = omega arith; third = omega arith; x = omega arith; y = omega arith };
+        most = record { first = omega arith; second = omega arith; third = omega arith; x = omega arith; y = omega arith };
+      };
       nodes = omega arith;
       count = omega arith;
       low = λ e. omega arith;

@@ -12,7 +12,8 @@ use Rattle.dimacs.specs.declared.format.Rules.{Rules}
 unfoldable pub coLine : List ℕ → Line
 coLine s = lineOf (bytes "p aux sp co N") (bytes "v ID X Y") s
 
--- for a graph of n nodes: N from 1 to 512, and equal to n; ID from 1 to n, X and Y from -1,000,000 to 1,000,000
+-- for a graph of n nodes. `p aux sp co N`: N, its third number, from 1 to 512, and equal to n.
+-- `v ID X Y`: ID, its third number without sign, from 1 to n, X and Y from -1,000,000 to 1,000,000; each node once.
 unfoldable pub coRules : ℕ → Rules
 coRules n =
     record {

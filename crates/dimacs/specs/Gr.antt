@@ -12,7 +12,8 @@ use Rattle.dimacs.specs.declared.format.Rules.{Rules}
 unfoldable pub grLine : List ℕ → Line
 grLine s = lineOf (bytes "p sp N M") (bytes "a U V W") s
 
--- after a problem line with N = n: N from 1 to 512, M from 0 to 2,048; U and V from 1 to N, W from 0 to 1,000,000
+-- after a problem line with N = n. `p sp N M`: N, its second number, from 1 to 512, M, its third, from 0 to 2,048.
+-- `a U V W`: U and V from 1 to N, W from 0 to 1,000,000; in the file's order.
 unfoldable pub grRules : ℕ → Rules
 grRules n =
     record {

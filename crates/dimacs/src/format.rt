@@ -34,6 +34,7 @@ pub struct Rules {
     pub once: bool,
 }
 
+// Numbers without sign.
 fn naturals_of(first: u32, second: u32, third: u32) -> Numbers
     ensures { λ r. ⌜ r ≡ naturals first second third ⌝ }
 {

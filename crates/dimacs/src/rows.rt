@@ -6,13 +6,14 @@ ghost use Prim.Native.Nat.{_≤_};
 ghost use lib.ListN.{length, take, drop};
 ghost use Rattle.dimacs.specs.Rows.{columnOf, axisOf};
 
-// Which number of a line.
+// Which number without sign of a line.
 pub enum Column {
     First,
     Second,
     Third,
 }
 
+// Which number of a line that may have a minus.
 pub enum Axis {
     X,
     Y,

@@ -38,22 +38,27 @@ line-empty problem rows s h = rw (eq-eqb (length s) 0 h)
 pub first-field : (s l : List ℕ) (e : ℕ) → e ≡ firstAt 32 s → l ≡ take e s → l ≡ firstField s
 first-field s l e ee el = el ∙ ap (λ (n : ℕ). take n s) ee
 
--- the line is not empty, and its first field is l
-module _ (problem rows s l : List ℕ) (some : length s ≡ 0 → ⊥) (letter : l ≡ firstField s) where
-  pub line-comment : sameBytes l (code "c" ∷ []) ≡ true → Comment ≡ heldLine (lineOf problem rows s)
-  unfolding lineOf heldLine
-  line-comment t = rw (ne-eqb (length s) 0 some, ← letter, t)
+pub line-comment : (problem rows s l : List ℕ) → (length s ≡ 0 → ⊥) → l ≡ firstField s → sameBytes l (code "c" ∷ []) ≡ true → Comment ≡ heldLine (lineOf problem rows s)
+unfolding lineOf heldLine
+line-comment problem rows s l some letter t = rw (ne-eqb (length s) 0 some, ← letter, t)
 
-  module _ (not-c : sameBytes l (code "c" ∷ []) ≡ false) (p : List ℕ) (letter-p : p ≡ firstField problem) where
-    pub line-problem : (f : Fields) → sameBytes l p ≡ true → f ≡ heldFields (matched (fieldsOf problem) 1 (fieldsOf s) none) → problemLine f ≡ heldLine (lineOf problem rows s)
+-- the line s is not empty and no comment; its first field is l, and that of the problem line's form p
+pub record Letters (problem s l p : List ℕ) : Type 0 where
+  pub some : length s ≡ 0 → ⊥
+  pub letter : l ≡ firstField s
+  pub not-c : sameBytes l (code "c" ∷ []) ≡ false
+  pub form-letter : p ≡ firstField problem
+
+module _ (problem rows s l p : List ℕ) (g : Letters problem s l p) where
+  pub line-problem : (f : Fields) → sameBytes l p ≡ true → f ≡ heldFields (matched (fieldsOf problem) 1 (fieldsOf s) none) → problemLine f ≡ heldLine (lineOf problem rows s)
+  unfolding lineOf
+  line-problem f t h = rw (ne-eqb (length s) 0 (g .some), ← g .letter, ← g .form-letter, g .not-c, t, h) (held-problem _)
+
+  module _ (not-p : sameBytes l p ≡ false) (q : List ℕ) (letter-q : q ≡ firstField rows) where
+    pub line-data : (f : Fields) → sameBytes l q ≡ true → f ≡ heldFields (matched (fieldsOf rows) 1 (fieldsOf s) none) → dataLine f ≡ heldLine (lineOf problem rows s)
     unfolding lineOf
-    line-problem f t h = rw (ne-eqb (length s) 0 some, ← letter, ← letter-p, not-c, t, h) (held-problem _)
+    line-data f t h = rw (ne-eqb (length s) 0 (g .some), ← g .letter, ← g .form-letter, ← letter-q, g .not-c, not-p, t, h) (held-data _)
 
-    module _ (not-p : sameBytes l p ≡ false) (q : List ℕ) (letter-q : q ≡ firstField rows) where
-      pub line-data : (f : Fields) → sameBytes l q ≡ true → f ≡ heldFields (matched (fieldsOf rows) 1 (fieldsOf s) none) → dataLine f ≡ heldLine (lineOf problem rows s)
-      unfolding lineOf
-      line-data f t h = rw (ne-eqb (length s) 0 some, ← letter, ← letter-p, ← letter-q, not-c, not-p, t, h) (held-data _)
-
-      pub line-none : sameBytes l q ≡ false → faulty NoLetter ≡ heldLine (lineOf problem rows s)
-      unfolding lineOf heldLine
-      line-none t = rw (ne-eqb (length s) 0 some, ← letter, ← letter-p, ← letter-q, not-c, not-p, t)
+    pub line-none : sameBytes l q ≡ false → faulty NoLetter ≡ heldLine (lineOf problem rows s)
+    unfolding lineOf heldLine
+    line-none t = rw (ne-eqb (length s) 0 (g .some), ← g .letter, ← g .form-letter, ← letter-q, g .not-c, not-p, t)

@@ -20,7 +20,7 @@ use Rattle.scan.specs.declared.fields.Field.the-variants.{Taken, NotTake
 use Rattle.scan.specs.declared.fields.Fields.{Fields}
 use Rattle.scan.specs.declared.fields.Fields.the-variants.{Read, Unread}
 
--- ---- the numbers of a line
+-- ---- the numbers of a line: the last three without sign are first, second and third, and the last two that may have a minus x and y
 
 abbrev pub none : Numbers
 none = record { first = 0; second = 0; third = 0; x = pos 0; y = pos 0 }

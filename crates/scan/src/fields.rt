@@ -22,7 +22,7 @@ pub struct Numbers {
     pub y: i32,
 }
 
-// What is wrong with a line, and the column, from 1, where it is seen.
+// What is wrong with a line.
 pub enum Kind {
     EmptyLine,
     NoLetter,
@@ -31,6 +31,7 @@ pub enum Kind {
     Extra,
 }
 
+// A fault of a line, and the column, from 1, where it is seen.
 pub struct Fault {
     pub kind: Kind,
     pub column: usize,
@@ -48,6 +49,7 @@ pub enum Fields {
     Unread(Fault),
 }
 
+// No number yet.
 pub fn no_numbers() -> Numbers
     ensures { λ r. ⌜ r ≡ none ⌝ }
 {
@@ -60,6 +62,7 @@ pub fn no_numbers() -> Numbers
     }
 }
 
+// One number more, without sign.
 fn add_natural(ns: Numbers, v: u32) -> Numbers
     ensures { λ r. ⌜ r ≡ oneNatural ns v ⌝ }
 {
@@ -72,6 +75,7 @@ fn add_natural(ns: Numbers, v: u32) -> Numbers
     }
 }
 
+// One number more, that may have a minus.
 fn add_integer(ns: Numbers, z: i32) -> Numbers
     ensures { λ r. ⌜ r ≡ oneInteger ns z ⌝ }
 {

@@ -45,6 +45,7 @@ pub fn first_byte(s: &[u8]) -> u8
     s[0]
 }
 
+// The first e bytes.
 pub fn front(s: &[u8], e: usize) -> &[u8]
     requires { ⌜ e ≤ length (now s) ⌝ }
     ensures { λ r. ⌜ now r ≡ take e (now (s .entry)) ⌝ }
@@ -52,6 +53,7 @@ pub fn front(s: &[u8], e: usize) -> &[u8]
     &s[..e]
 }
 
+// The bytes after the first a.
 pub fn rest(s: &[u8], a: usize) -> &[u8]
     requires { ⌜ a ≤ length (now s) ⌝ }
     ensures { λ r. ⌜ now r ≡ drop a (now (s .entry)) ⌝ }

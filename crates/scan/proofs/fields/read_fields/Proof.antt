@@ -1,4 +1,4 @@
-use Prim.Native.Nat.{_-_}
+use Prim.Native.Nat.{_+_, _-_, _≤_}
 use native.Mathlib.Omega.{arith}
 use lib.ListN.{length}
 use borrow.Author.Needs.{needs}
@@ -30,6 +30,10 @@ step c =
       line-field = c .before .front2 .ensures;
       same-field = c .take-field .ensures;
     }
+
+-- a field ends within its line
+in-line : (c : tie.After-take-field Inv-loop μ-loop) → c .before .before .before .before .before .before .before .loop .j + c .before .before .before .first-at2 .result ≤ length (c .before .before .before .before .before .before .before .before .before .before .before .args .s .now)
+in-line c = omega (arith, rest-long _ _ (c .before .before .before .before .before .before .before .loop .j) (step c .line-rest))
 
 no-numbers-requires : tie.Need-no-numbers-requires Inv-loop μ-loop
 no-numbers-requires c κs = search needs
@@ -76,15 +80,11 @@ returns-2 c =
 
 add-t19 : tie.Need-add-t19 Inv-loop μ-loop
 add-t19 c =
-    let g = step (c .before .before .before .before .before) in
-    let good = c .before .before .before .before .before .before .before .before .before .before .before .before .before .before .before .before .good in
-    omega (arith, rest-long _ _ (c .before .before .before .before .before .before .before .before .before .before .before .before .loop .j) (g .line-rest))
+    let good = c .before .before .before .before .before .before .before .before .before .before .before .before .before .before .before .before .good in omega (arith, in-line (c .before .before .before .before .before))
 
 add-t22 : tie.Need-add-t22 Inv-loop μ-loop
 add-t22 c =
-    let g = step (c .before .before .before .before .before) in
-    let good = c .before .before .before .before .before .before .before .before .before .before .before .before .before .before .before .before .good in
-    omega (arith, rest-long _ _ (c .before .before .before .before .before .before .before .before .before .before .before .before .loop .j) (g .line-rest))
+    let good = c .before .before .before .before .before .before .before .before .before .before .before .before .before .before .before .before .good in omega (arith, in-line (c .before .before .before .before .before))
 
 returns-3 : tie.Need-returns-3 Inv-loop μ-loop
 returns-3 c =
@@ -92,15 +92,11 @@ returns-3 c =
 
 add-t25 : tie.Need-add-t25 Inv-loop μ-loop
 add-t25 c =
-    let g = step (c .before .before .before .before .before) in
-    let good = c .before .before .before .before .before .before .before .before .before .before .before .before .before .before .before .before .good in
-    omega (arith, rest-long _ _ (c .before .before .before .before .before .before .before .before .before .before .before .before .loop .j) (g .line-rest))
+    let good = c .before .before .before .before .before .before .before .before .before .before .before .before .before .before .before .before .good in omega (arith, in-line (c .before .before .before .before .before))
 
 add-t26 : tie.Need-add-t26 Inv-loop μ-loop
 add-t26 c =
-    let g = step (c .before .before .before .before .before) in
-    let good = c .before .before .before .before .before .before .before .before .before .before .before .before .before .before .before .before .good in
-    omega (arith, rest-long _ _ (c .before .before .before .before .before .before .before .before .before .before .before .before .loop .j) (g .line-rest))
+    let good = c .before .before .before .before .before .before .before .before .before .before .before .before .before .before .before .before .good in omega (arith, in-line (c .before .before .before .before .before))
 
 returns-4 : tie.Need-returns-4 Inv-loop μ-loop
 returns-4 c =
@@ -114,20 +110,15 @@ add-i-2 c = search needs
 
 add-j : tie.Need-add-j Inv-loop μ-loop
 add-j c =
-    let g = step (c .before .before .before .before .before) in
-    let good = c .before .before .before .before .before .before .before .before .before .before .before .before .before .before .before .before .good in
-    omega (arith, rest-long _ _ (c .before .before .before .before .before .before .before .before .before .before .before .before .loop .j) (g .line-rest))
+    let good = c .before .before .before .before .before .before .before .before .before .before .before .before .before .before .before .before .good in omega (arith, in-line (c .before .before .before .before .before))
 
 add-j-2 : tie.Need-add-j-2 Inv-loop μ-loop
 add-j-2 c =
-    let g = step (c .before .before .before .before .before) in
-    let good = c .before .before .before .before .before .before .before .before .before .before .before .before .before .before .before .before .good in
-    omega (arith, rest-long _ _ (c .before .before .before .before .before .before .before .before .before .before .before .before .loop .j) (g .line-rest))
+    let good = c .before .before .before .before .before .before .before .before .before .before .before .before .before .before .before .before .good in omega (arith, in-line (c .before .before .before .before .before))
 
 loop-less : tie.Need-loop-less Inv-loop μ-loop
 loop-less c =
-    let g = step (c .before .before .before .before .before) in
-    omega (arith, rest-long _ _ (c .before .before .before .before .before .before .before .before .before .before .before .before .loop .i) (g .form-rest))
+    omega (arith, rest-long _ _ (c .before .before .before .before .before .before .before .before .before .before .before .before .loop .i) (step (c .before .before .before .before .before) .form-rest))
 
 loop-again : tie.Need-loop-again Inv-loop μ-loop
 loop-again c =
