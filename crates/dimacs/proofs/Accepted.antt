@@ -23,7 +23,10 @@ use Rattle.dimacs.specs.Co.{coRules}
 use Rattle.dimacs.specs.Texts.{Outcome, read, refused, readText}
 use Rattle.dimacs.specs.Rows.{columnOf, axisOf, row}
 use Rattle.dimacs.specs.Reading.{readGr, grSays, readCo, coSays}
+use Rattle.dimacs.specs.Promise.{GrPromise, CoPromise}
 use Rattle.dimacs.specs.Accepted.{GrLimits, CoLimits}
+use Rattle.dimacs.specs.declared.GrReply.the-variants.{Read as GrRead}
+use Rattle.dimacs.specs.declared.CoReply.the-variants.{Read as CoRead}
 use Rattle.dimacs.specs.declared.format.Format.the-variants.{Graph, Coordinates}
 use Rattle.dimacs.specs.declared.rows.Column.the-variants.{First, Second, Third}
 use Rattle.dimacs.specs.declared.rows.Axis.the-variants.{X, Y}
@@ -78,8 +81,7 @@ gr-read : (text a b c : List ℕ) (p : Numbers) (lines : List Numbers) → readG
 unfolding readGr
 gr-read text a b c p lines e = onward _ _ _ _ e .1
 
--- the rows that `read_gr` leaves after it said n and m
-pub gr-limits : (text a b c : List ℕ) (n m : ℕ) → grSays (readGr text a b c) ≡ accepted (n ∷ m ∷ [])
+gr-limits : (text a b c : List ℕ) (n m : ℕ) → grSays (readGr text a b c) ≡ accepted (n ∷ m ∷ [])
     → GrLimits n m (row (columnOf First) (readGr text a b c) a) (row (columnOf Second) (readGr text a b c) b) (row (columnOf Third) (readGr text a b c) c)
 unfolding grSays row
 gr-limits text a b c n m e = by-outcome (readGr text a b c) (gr-read text a b c) e
@@ -125,8 +127,7 @@ co-read text n a b p lines e =
     let i = both (leb 1 n) (leb n mostNodes) (passes-fine _ _ (h .0)) in
     (leb-true _ _ (i .1), d .1)
 
--- the rows that `read_co` leaves after it accepted
-pub co-limits : (text : List ℕ) (n : ℕ) (a b : List ℤ) → coSays (readCo text n a b) ≡ accepted []
+co-limits : (text : List ℕ) (n : ℕ) (a b : List ℤ) → coSays (readCo text n a b) ≡ accepted []
     → CoLimits n (row (axisOf X) (readCo text n a b) a) (row (axisOf Y) (readCo text n a b) b)
 unfolding coSays row
 co-limits text n a b e = by-outcome (readCo text n a b) (co-read text n a b) e
@@ -147,3 +148,11 @@ co-nodes text n a b p lines e =
     let s = sound (Coordinates n) (f .0) text p lines (f .1) in
     let all : p .third ≡ n = co-count n text p lines (f .0) (f .1) in
     (s .long ∙ all, λ i h. s .entry i (omega arith) .node refl)
+
+-- ---- the rows that a reader leaves after it accepted
+
+pub read-gr-limits : (text a b c : List ℕ) (n m : ℕ) (a′ b′ c′ : List ℕ) → GrPromise text a b c (GrRead n m) a′ b′ c′ → GrLimits n m a′ b′ c′
+read-gr-limits text a b c n m a′ b′ c′ p = rw (p .tails-left, p .heads-left, p .weights-left) (gr-limits text a b c n m (sym (p .reply)))
+
+pub read-co-limits : (text : List ℕ) (n : ℕ) (a b a′ b′ : List ℤ) → CoPromise text n a b CoRead a′ b′ → CoLimits n a′ b′
+read-co-limits text n a b a′ b′ p = rw (p .x-left, p .y-left) (co-limits text n a b (sym (p .reply)))
