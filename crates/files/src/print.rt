@@ -1,43 +1,35 @@
 // Writing to standard output.
-ghost use mathlib.Core.Path.{_≡_};
-ghost use lib.IntN.{natAbs};
+ghost use Prim.Native.Nat.{_≤_};
+use crate::page::PAGE;
+use crate::page::put_number;
+use crate::refusals::put_place;
 use libc::STDOUT_FILENO;
 use rules::Judged;
 use rules::Refusal;
 
-// The size of a number, without its sign.
-pub fn size(z: i32) -> u64
-    ensures { λ r. ⌜ r ≡ natAbs z ⌝ }
+// Writes the page up to an end.
+pub fn out(page: &[u8; PAGE], end: usize)
+    requires { ⌜ end ≤ 368640 ⌝ }
 {
-    let wide = z as i64;
-    if wide < 0 {
-        return (0 - wide) as u64;
-    }
-    wide as u64
+    let whole = &page[..];
+    io::write_all(STDOUT_FILENO, &whole[0..end]);
 }
 
 pub fn text(bytes: &[u8]) {
     io::write_all(STDOUT_FILENO, bytes);
 }
 
-pub fn count(n: u32) {
-    io::print_decimal(STDOUT_FILENO, n as u64);
-}
-
 pub fn number(z: i32) {
-    if z < 0 {
-        text(b"-");
-    }
-    io::print_decimal(STDOUT_FILENO, size(z));
+    let mut page = [0u8; PAGE];
+    let end = put_number(&mut page, 0, z);
+    out(&page, end);
 }
 
 // `refused`, the paper's number, and the place or 0.
 pub fn refused(r: Refusal) {
-    text(b"refused ");
-    count(r.number());
-    text(b" ");
-    count(r.place());
-    text(b"\n");
+    let mut page = [0u8; PAGE];
+    let end = put_place(&mut page, 0, r);
+    out(&page, end);
 }
 
 pub fn judged(j: Judged) {

@@ -1,4 +1,4 @@
 mod FieldLaws
 mod LineLaws
-mod NumberLaws
+pub mod NumberLaws
 pub mod PieceLaws

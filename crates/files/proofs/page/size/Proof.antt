@@ -1,7 +1,7 @@
--- `files::print::size` meets its contract. Assumes nothing.
+-- `files::page::size` meets its contract. Assumes nothing.
 use Rattle.files.proofs.Signed.{wide, wide-fits, minus, minus-fits, minus-size, minus-good, plus-good}
-use Rattle.files.proofs.print.size.Statement.{statement}
-use Rattle.files.proofs.print.size.Tie as tie
+use Rattle.files.proofs.page.size.Statement.{statement}
+use Rattle.files.proofs.page.size.Tie as tie
 
 cast-wide : tie.Need-cast-wide
 cast-wide c = wide-fits (c .args .z) (c .fits .z)

@@ -1,0 +1,72 @@
+use Rattle.commands.specs.declared.numbers.Spelt.the-variants.{Held}
+use Prim.Native.Nat.{ℕ, _≤_, _<_, _-_, _+_}
+use mathlib.Core.Path.{_≡_, refl, sym, _∙_, ap}
+use native.Mathlib.Omega.{arith}
+use lib.ListN.{length, getD, drop}
+use Rattle.scan.specs.Numbers.{valueFrom}
+use Rattle.commands.specs.Numbers.{heldNumber}
+use Rattle.scan.proofs.NumberLaws.{digits-low, digits-high, digits-more, digits-end}
+use Rattle.commands.proofs.NumberLaws.{held-alike}
+use borrow.Author.Needs.{needs}
+use Rattle.commands.proofs.numbers.read_digits.Statement.{statement}
+use Rattle.commands.proofs.numbers.read_digits.Tie as tie
+
+abbrev Inv-loop : tie.InvT-loop
+Inv-loop s v₀ i₀ v i = (i ≤ length s) × ((v ≤ 10000000000) × (heldNumber (valueFrom 0 s) ≡ heldNumber (valueFrom v (drop i s))))
+
+abbrev μ-loop : tie.MeasureT-loop
+μ-loop s v₀ i₀ v i = length s - i
+
+loop-holds : tie.Need-loop-holds Inv-loop μ-loop
+loop-holds c = search needs
+
+shared-slice-read-b : tie.Need-shared-slice-read-b Inv-loop μ-loop
+shared-slice-read-b c = search needs
+
+returns : tie.Need-returns Inv-loop μ-loop
+unfolding heldNumber
+returns c = rw (c .before .before .before .loop .inv .1 .1, digits-low _ _ _ (c .before .before .loop-test .taken) (c .if1 .taken))
+
+returns-2 : tie.Need-returns-2 Inv-loop μ-loop
+unfolding heldNumber
+returns-2 c = rw (c .before .before .before .before .loop .inv .1 .1, digits-high _ _ _ (c .before .before .before .loop-test .taken) (c .before .if1 .left) (c .if2 .taken))
+
+longer-requires : tie.Need-longer-requires Inv-loop μ-loop
+longer-requires c κs = search needs
+
+add-i : tie.Need-add-i Inv-loop μ-loop
+add-i c = search needs
+
+loop-less : tie.Need-loop-less Inv-loop μ-loop
+loop-less c = search needs
+
+loop-again : tie.Need-loop-again Inv-loop μ-loop
+loop-again c =
+    let l = c .before .before .before .before .before .loop in
+    let h = c .before .before .before .before .loop-test .taken in (
+      omega arith,
+      (
+        omega arith,
+        l .inv .1 .1 ∙ ap heldNumber (digits-more _ _ _ h (c .before .before .if1 .left) (c .before .if2 .left)) ∙ held-alike _ _ _ (omega arith),
+      ),
+    )
+
+returns-3 : tie.Need-returns-3 Inv-loop μ-loop
+unfolding heldNumber
+returns-3 c = rw (c .before .loop .inv .1 .1, digits-end _ _ _ (c .loop-test .left)) (ap Held (omega arith))
+
+pub read-digits-spec : {M : Type 1} → statement M
+read-digits-spec =
+    tie.close
+    (tie.spec
+    Inv-loop
+    μ-loop
+    loop-holds
+    shared-slice-read-b
+    returns
+    returns-2
+    longer-requires
+    add-i
+    loop-less
+    loop-again
+    returns-3)

@@ -1,0 +1,108 @@
+// A line is answered: its reply is put on the page.
+ghost use Rattle.console.specs.Rows.{Full, Well};
+use crate::lending::lend;
+use crate::rows::State;
+use crate::rows::clear_rows;
+use crate::rows::start;
+use commands::Command;
+use commands::Fault;
+use commands::command_of;
+use files::page::PAGE;
+use replies::obey::obey;
+use replies::words::put_ok;
+
+// What a line asks for that has so many bytes.
+fn asked(line: &[u8], length: usize) -> Command {
+    if line.len() < length {
+        return Command::Faulty(Fault::LongLine);
+    }
+    command_of(&line[0..length])
+}
+
+// The bytes of a line, or all where it is too long.
+fn heard(line: &[u8], length: usize) -> &[u8] {
+    if length < line.len() {
+        return &line[0..length];
+    }
+    line
+}
+
+// Answers a line of so many bytes. An input that ends has no further line where no byte was left.
+pub fn answer(
+    page: &mut [u8; PAGE],
+    line: &[u8],
+    length: usize,
+    ended: bool,
+    state: State,
+    tails: &mut [u32],
+    heads: &mut [u32],
+    weights: &mut [u32],
+    x: &mut [i32],
+    y: &mut [i32],
+    boxes: &mut [i32],
+    route: &mut [u32],
+) -> State
+    requires { ⌜ Well state × Full (now tails) (now heads) (now weights) (now x) (now y) (now boxes) (now route) ⌝ }
+    ensures { λ r. ⌜ Well r ⌝ }
+{
+    let lent = state.lent;
+    let sizes = state.sizes;
+    if ended & (length == 0) {
+        return State {
+            lent,
+            sizes,
+            end: 0,
+        };
+    }
+    let command = asked(line, length);
+    let words = heard(line, length);
+    match command {
+        Command::Lend(row) => {
+            let more = lend(words, lent, row, tails, heads, weights, x, y, boxes, route);
+            return State {
+                lent: more,
+                sizes,
+                end: put_ok(page),
+            };
+        }
+        Command::Fresh => {
+            clear_rows(tails, heads, weights, x, y, boxes, route);
+            let again = start();
+            let all = again.lent;
+            let none = again.sizes;
+            return State {
+                lent: all,
+                sizes: none,
+                end: put_ok(page),
+            };
+        }
+        _ => {
+            let a = lent.tails;
+            let b = lent.heads;
+            let c = lent.weights;
+            let d = lent.x;
+            let e = lent.y;
+            let f = lent.boxes;
+            let g = lent.route;
+            let done = obey(
+                page,
+                words,
+                command,
+                sizes,
+                &mut tails[0..a],
+                &mut heads[0..b],
+                &mut weights[0..c],
+                &mut x[0..d],
+                &mut y[0..e],
+                &mut boxes[0..f],
+                &mut route[0..g],
+            );
+            let more = done.sizes;
+            return State {
+                lent,
+                sizes: more,
+                end: done.end,
+            };
+        }
+    }
+}

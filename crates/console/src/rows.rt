@@ -1,0 +1,76 @@
+// The console's rows, and what is lent of them.
+ghost use Rattle.console.specs.Rows.{Well};
+use replies::obey::Sizes;
+
+// How many places of each row are lent, from the first on.
+pub struct Lent {
+    pub tails: usize,
+    pub heads: usize,
+    pub weights: usize,
+    pub x: usize,
+    pub y: usize,
+    pub boxes: usize,
+    pub route: usize,
+}
+
+// What is lent, the numbers n and m, and where the last reply ends on the page.
+pub struct State {
+    pub lent: Lent,
+    pub sizes: Sizes,
+    pub end: usize,
+}
+
+// All places of each row are lent, and n and m are 0.
+pub fn start() -> State
+    ensures { λ r. ⌜ Well r ⌝ }
+{
+    State {
+        lent: Lent {
+            tails: 4096,
+            heads: 4096,
+            weights: 4096,
+            x: 1024,
+            y: 1024,
+            boxes: 16384,
+            route: 1024,
+        },
+        sizes: Sizes { n: 0, m: 0 },
+        end: 0,
+    }
+}
+
+// Makes all places of a row 0.
+pub fn clear_counts(row: &mut [u32]) {
+    let mut i = 0;
+    while i < row.len() {
+        row[i] = 0;
+        i += 1;
+    }
+}
+
+pub fn clear_numbers(row: &mut [i32]) {
+    let mut i = 0;
+    while i < row.len() {
+        row[i] = 0;
+        i += 1;
+    }
+}
+
+// `fresh`: all rows are 0.
+pub fn clear_rows(
+    tails: &mut [u32],
+    heads: &mut [u32],
+    weights: &mut [u32],
+    x: &mut [i32],
+    y: &mut [i32],
+    boxes: &mut [i32],
+    route: &mut [u32],
+) {
+    clear_counts(tails);
+    clear_counts(heads);
+    clear_counts(weights);
+    clear_numbers(x);
+    clear_numbers(y);
+    clear_numbers(boxes);
+    clear_counts(route);
+}

@@ -1,0 +1,98 @@
+use Prim.Native.Nat.{ℕ, _≤_, _+_, _-_, _*_}
+use mathlib.Core.Path.{_≡_, _∙_, ap, sym, refl}
+use native.Mathlib.Omega.{arith}
+use Rattle.files.proofs.PageLaws.{puts-both, puts-same}
+use Rattle.files.specs.Listing.{lineText}
+use borrow.Author.Needs.{needs}
+use Rattle.files.proofs.listing.put_line.Statement.{statement}
+use Rattle.files.proofs.listing.put_line.Tie as tie
+use Rattle.files.proofs.listing.put_line.Reads as reads
+use Rattle.files.proofs.listing.put_line.Lts as lts
+use Rattle.files.proofs.listing.put_box.Reads as put-box-reads
+use Rattle.files.proofs.listing.put_count_field.Reads as put-count-field-reads
+
+-- src/listing.rt:57:40
+add-put-count-field : tie.Need-add-put-count-field
+add-put-count-field c = search needs
+
+-- src/listing.rt:57:39
+cast-put-count-field : tie.Need-cast-put-count-field
+cast-put-count-field c = search needs
+
+-- src/listing.rt:57:9
+put-count-field-requires : tie.Need-put-count-field-requires
+put-count-field-requires c κs = search needs
+
+-- src/listing.rt:58:38
+mul-put-count-field : tie.Need-mul-put-count-field
+mul-put-count-field c = search needs
+
+-- src/listing.rt:58:38
+shared-slice-read-put-count-field : tie.Need-shared-slice-read-put-count-field
+shared-slice-read-put-count-field c = search needs
+
+-- src/listing.rt:58:9
+put-count-field-requires-2 : tie.Need-put-count-field-requires-2
+put-count-field-requires-2 c κs = search needs
+
+-- src/listing.rt:59:38
+mul-put-count-field-2 : tie.Need-mul-put-count-field-2
+mul-put-count-field-2 c = search needs
+
+-- src/listing.rt:59:38
+shared-slice-read-put-count-field-2 : tie.Need-shared-slice-read-put-count-field-2
+shared-slice-read-put-count-field-2 c = search needs
+
+-- src/listing.rt:59:9
+put-count-field-requires-3 : tie.Need-put-count-field-requires-3
+put-count-field-requires-3 c κs = search needs
+
+-- src/listing.rt:60:38
+mul-put-count-field-3 : tie.Need-mul-put-count-field-3
+mul-put-count-field-3 c = search needs
+
+-- src/listing.rt:60:38
+shared-slice-read-put-count-field-3 : tie.Need-shared-slice-read-put-count-field-3
+shared-slice-read-put-count-field-3 c = search needs
+
+-- src/listing.rt:60:9
+put-count-field-requires-4 : tie.Need-put-count-field-requires-4
+put-count-field-requires-4 c κs = search needs
+
+-- src/listing.rt:61:29
+mul-put-box : tie.Need-mul-put-box
+mul-put-box c = search needs
+
+-- src/listing.rt:61:5
+put-box-requires : tie.Need-put-box-requires
+put-box-requires c κs = search needs
+
+-- src/listing.rt:44:1
+returns : tie.Need-returns
+unfolding lineText
+returns c =
+    let d = c .before .before in
+    let e = d .before .before .before in
+    let f = e .before .before .before in
+    let g = f .before .before .before in
+    (puts-both (puts-both (puts-both (puts-both (g .put-count-field .ensures .0) (f .put-count-field2 .ensures .0)) (e .put-count-field3 .ensures .0)) (d .put-count-field4 .ensures .0)) (c .put-box .ensures .0), omega arith)
+
+pub put-line-spec : {M : Type 1} → statement M
+put-line-spec =
+    tie.close
+    (tie.spec
+    add-put-count-field
+    cast-put-count-field
+    put-count-field-requires
+    mul-put-count-field
+    shared-slice-read-put-count-field
+    put-count-field-requires-2
+    mul-put-count-field-2
+    shared-slice-read-put-count-field-2
+    put-count-field-requires-3
+    mul-put-count-field-3
+    shared-slice-read-put-count-field-3
+    put-count-field-requires-4
+    mul-put-box
+    put-box-requires
+    returns)

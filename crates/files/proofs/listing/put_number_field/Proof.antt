@@ -1,0 +1,40 @@
+use Prim.Native.Nat.{ℕ, _≤_, _+_, _-_, _*_}
+use mathlib.Core.Path.{_≡_, _∙_, ap, sym, refl}
+use native.Mathlib.Omega.{arith}
+use Rattle.files.proofs.PageLaws.{puts-both, puts-same}
+use lib.IntN.{ℤ}
+use mir.Syntax.{w32}
+use mir.Facts.{toZ-ofZ}
+use borrow.Author.Needs.{sfits-of}
+use Rattle.files.specs.Decimal.{whole}
+use Rattle.files.specs.Listing.{wholeField}
+use borrow.Author.Needs.{needs}
+use Rattle.files.proofs.listing.put_number_field.Statement.{statement}
+use Rattle.files.proofs.listing.put_number_field.Tie as tie
+use Rattle.files.proofs.listing.put_number_field.Reads as reads
+use Rattle.files.proofs.listing.put_number_field.Lts as lts
+use Rattle.files.proofs.page.put.Reads as put-reads
+use Rattle.files.proofs.page.put_number.Reads as put-number-reads
+
+-- src/listing.rt:26:9
+put-number-requires : tie.Need-put-number-requires
+put-number-requires c κs = search needs
+
+-- src/listing.rt:27:20
+slice-aggregate-put : tie.Need-slice-aggregate-put
+slice-aggregate-put c = search needs
+
+-- src/listing.rt:27:5
+put-requires : tie.Need-put-requires
+put-requires c κs = search needs
+
+-- src/listing.rt:21:1
+returns : tie.Need-returns
+returns c =
+    let a = c .before .before .before .before .before in
+    let z = ap whole (toZ-ofZ {w = w32} (a .fits .z)) in
+    (puts-both (puts-same z (c .before .before .before .put-number .ensures .0)) (c .put .ensures), omega arith)
+
+pub put-number-field-spec : {M : Type 1} → statement M
+put-number-field-spec =
+    tie.close (tie.spec put-number-requires slice-aggregate-put put-requires returns)

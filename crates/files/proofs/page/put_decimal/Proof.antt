@@ -1,0 +1,45 @@
+use Prim.Native.Nat.{_≤_}
+use mathlib.Core.Path.{_∙_}
+use native.Mathlib.Omega.{arith}
+use borrow.Author.Needs.{needs}
+use Rattle.files.specs.Decimal.{decimal}
+use Rattle.files.proofs.DecimalLaws.{digits-spelt, few-digits}
+use Rattle.files.proofs.page.put_decimal.Statement.{statement}
+use Rattle.files.proofs.page.put_decimal.Tie as tie
+use Rattle.files.proofs.page.put_decimal.Reads as reads
+use Rattle.files.proofs.page.put_decimal.Lts as lts
+use Rattle.files.proofs.page.put.Reads as put-reads
+use Rattle.io.proofs.decimal.Reads as decimal-reads
+
+-- src/page.rt:32:9
+decimal-requires : tie.Need-decimal-requires
+decimal-requires c κs = search needs
+
+-- src/page.rt:33:19
+array-share-prefix-digits : tie.Need-array-share-prefix-digits
+array-share-prefix-digits c = search needs
+
+-- src/page.rt:33:19
+slice-aggregate-put : tie.Need-slice-aggregate-put
+slice-aggregate-put c = search needs
+
+-- src/page.rt:33:5
+put-requires : tie.Need-put-requires
+put-requires c κs =
+    let d = c .before .before .decimal .ensures in
+    let few = few-digits _ _ (c .before .before .before .before .fits .n .fits) (d .1 .0) in
+    omega (arith, d .0 .1)
+
+-- src/page.rt:26:1
+returns : tie.Need-returns
+unfolding decimal
+returns c =
+    let p = c .put .ensures in
+    let d = c .before .before .before .decimal .ensures in
+    let few = few-digits _ _ (c .before .before .before .before .before .fits .n .fits) (d .1 .0) in
+    (rw (d .1 .1 ∙ digits-spelt _ 20 _ few (d .1 .0)) at p, omega (arith, p .end, d .0 .1, few))
+
+pub put-decimal-spec : {M : Type 1} → statement M
+put-decimal-spec =
+    tie.close
+    (tie.spec decimal-requires array-share-prefix-digits slice-aggregate-put put-requires returns)

@@ -1,0 +1,74 @@
+use Prim.Native.Nat.{ℕ}
+use mathlib.Core.Path.{_∙_, ap, sym}
+use mathlib.Core.List.{_∷_}
+use Rattle.files.specs.Decimal.{decimal}
+use native.Mathlib.Omega.{arith}
+use mir.Syntax.{w32}
+use mir.Facts.{toZ-ofZ}
+use borrow.Author.Needs.{needs}
+use Rattle.files.proofs.PageLaws.{puts-both, puts-same}
+use Rattle.files.proofs.DecimalLaws.{whole-minus, whole-plus}
+use Rattle.files.proofs.page.put_number.Statement.{statement}
+use Rattle.files.proofs.page.put_number.Tie as tie
+use Rattle.files.proofs.page.put_number.Reads as reads
+use Rattle.files.proofs.page.put_number.Lts as lts
+use Rattle.files.proofs.page.put.Reads as put-reads
+use Rattle.files.proofs.page.put_decimal.Reads as put-decimal-reads
+use Rattle.files.proofs.page.size.Reads as size-reads
+
+-- src/page.rt:62:35
+slice-aggregate-put : tie.Need-slice-aggregate-put
+slice-aggregate-put c = search needs
+
+-- src/page.rt:62:13
+put-requires : tie.Need-put-requires
+put-requires c κs = search needs
+
+-- src/page.rt:63:41
+size-requires : tie.Need-size-requires
+size-requires c κs = search needs
+
+-- src/page.rt:63:9
+put-decimal-requires : tie.Need-put-decimal-requires
+put-decimal-requires c κs = search needs
+
+-- src/page.rt:63:9
+returns : tie.Need-returns
+returns c =
+    let b = c .before .before .before .before .before .before in
+    let z = b .before .args .z in
+    let plain = toZ-ofZ {w = w32} (b .before .fits .z) in
+    let sign = rw plain at (b .if1 .taken) in
+    let sized = ap (λ (m : ℕ). 45 ∷ decimal m) (rw plain at (c .before .size .ensures)) in
+    (puts-same (sized ∙ whole-minus z sign) (puts-both (c .before .before .before .put .ensures) (c .put-decimal .ensures .0)), omega arith)
+
+-- src/page.rt:65:27
+size-requires-2 : tie.Need-size-requires-2
+size-requires-2 c κs = search needs
+
+-- src/page.rt:65:5
+put-decimal-requires-2 : tie.Need-put-decimal-requires-2
+put-decimal-requires-2 c κs = search needs
+
+-- src/page.rt:56:1
+returns-2 : tie.Need-returns-2
+returns-2 c =
+    let b = c .before .before .before in
+    let z = b .before .args .z in
+    let plain = toZ-ofZ {w = w32} (b .before .fits .z) in
+    let sign = rw plain at (b .if1 .left) in
+    let sized = ap decimal (rw plain at (c .before .size2 .ensures)) in
+    (puts-same (sized ∙ whole-plus z sign) (c .put-decimal2 .ensures .0), omega arith)
+
+pub put-number-spec : {M : Type 1} → statement M
+put-number-spec =
+    tie.close
+    (tie.spec
+    slice-aggregate-put
+    put-requires
+    size-requires
+    put-decimal-requires
+    returns
+    size-requires-2
+    put-decimal-requires-2
+    returns-2)

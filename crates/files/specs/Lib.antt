@@ -1,0 +1,4 @@
+pub mod Page
+pub mod Decimal
+pub mod File
+pub mod Listing

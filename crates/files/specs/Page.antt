@@ -1,0 +1,15 @@
+-- Texts that are put on a page. Assumes nothing: these are definitions.
+use Prim.Native.Nat.{ℕ, _+_}
+use mathlib.Core.Path.{_≡_}
+use mathlib.Core.List.{List, [], _∷_}
+use lib.ListN.{length, set}
+
+-- the page with a text written on it, byte by byte from the place `at` on
+unfoldable pub written : List ℕ → ℕ → List ℕ → List ℕ
+written page at [] = page
+written page at (b ∷ text) = written (set page at b) (at + 1) text
+
+-- the text was put on the page from the place `at` on; r is the place after it
+pub record Puts (text : List ℕ) (at : ℕ) (before : List ℕ) (r : ℕ) (after : List ℕ) : Type 0 where
+  pub end : r ≡ at + length text
+  pub page : after ≡ written before at text

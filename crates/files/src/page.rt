@@ -1,0 +1,66 @@
+// A page: the bytes that a program puts together before it writes them out at once.
+ghost use mathlib.Core.Path.{_≡_};
+ghost use Prim.Native.Nat.{_+_, _≤_};
+ghost use lib.ListN.{length};
+ghost use lib.IntN.{natAbs};
+ghost use Rattle.files.specs.Page.{Puts};
+ghost use Rattle.files.specs.Decimal.{decimal, whole};
+
+// The bytes of a page: more than any listing or reply takes.
+pub const PAGE: usize = 368640;
+
+// Puts bytes on the page from a place on, and answers the place after them.
+pub fn put(page: &mut [u8; PAGE], at: usize, bytes: &[u8]) -> usize
+    requires { ⌜ at + length (now bytes) ≤ 368640 ⌝ }
+    ensures { λ r. ⌜ Puts (now (bytes .entry)) at (now (page .entry)) r (now (page .exit)) ⌝ }
+{
+    let mut i = 0;
+    while i < bytes.len() {
+        page[at + i] = bytes[i];
+        i += 1;
+    }
+    at + i
+}
+
+// Puts a number in decimal.
+pub fn put_decimal(page: &mut [u8; PAGE], at: usize, n: u64) -> usize
+    requires { ⌜ at + 20 ≤ 368640 ⌝ }
+    ensures { λ r. ⌜ Puts (decimal n) at (now (page .entry)) r (now (page .exit)) ⌝ }
+    ensures { λ r. ⌜ r ≤ at + 20 ⌝ }
+{
+    let mut digits = [0u8; 20];
+    let k = io::decimal(n, &mut digits);
+    put(page, at, &digits[..k])
+}
+
+pub fn put_count(page: &mut [u8; PAGE], at: usize, n: u32) -> usize
+    requires { ⌜ at + 20 ≤ 368640 ⌝ }
+    ensures { λ r. ⌜ Puts (decimal n) at (now (page .entry)) r (now (page .exit)) ⌝ }
+    ensures { λ r. ⌜ r ≤ at + 20 ⌝ }
+{
+    put_decimal(page, at, n as u64)
+}
+
+// The size of a number, without its sign.
+pub fn size(z: i32) -> u64
+    ensures { λ r. ⌜ r ≡ natAbs z ⌝ }
+{
+    let wide = z as i64;
+    if wide < 0 {
+        return (0 - wide) as u64;
+    }
+    wide as u64
+}
+
+// Puts a number that may be negative.
+pub fn put_number(page: &mut [u8; PAGE], at: usize, z: i32) -> usize
+    requires { ⌜ at + 21 ≤ 368640 ⌝ }
+    ensures { λ r. ⌜ Puts (whole z) at (now (page .entry)) r (now (page .exit)) ⌝ }
+    ensures { λ r. ⌜ r ≤ at + 21 ⌝ }
+{
+    if z < 0 {
+        let after = put(page, at, b"-");
+        return put_decimal(page, after, size(z));
+    }
+    put_decimal(page, at, size(z))
+}

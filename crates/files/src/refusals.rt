@@ -1,0 +1,148 @@
+// Refusals as the programs print them.
+ghost use Prim.Native.Nat.{_+_, _≤_};
+ghost use lib.ListN.{length};
+use crate::page::PAGE;
+use crate::page::put;
+use crate::page::put_count;
+use rules::Refusal;
+
+// `refused`, the paper's number, and the place or 0: a line of `boxes`.
+pub fn put_place(page: &mut [u8; PAGE], at: usize, r: Refusal) -> usize
+    requires { ⌜ at + 50 ≤ 368640 ⌝ }
+    ensures { λ r. ⌜ r ≤ at + 50 ⌝ }
+{
+    let a = put(page, at, b"refused ");
+    let b = put_count(page, a, r.number());
+    let c = put(page, b, b" ");
+    let d = put_count(page, c, r.place());
+    put(page, d, b"\n")
+}
+
+// A number between two texts.
+fn put_between(page: &mut [u8; PAGE], at: usize, before: &[u8], n: u32, after: &[u8]) -> usize
+    requires { ⌜ (at ≤ 1000) × (length (now before) ≤ 100) × (length (now after) ≤ 100) ⌝ }
+    ensures { λ r. ⌜ r ≤ at + 220 ⌝ }
+{
+    let a = put(page, at, before);
+    let b = put_count(page, a, n);
+    put(page, b, after)
+}
+
+// The refusal's values, each after a space.
+fn put_values(page: &mut [u8; PAGE], at: usize, r: Refusal) -> usize
+    requires { ⌜ at ≤ 1000 ⌝ }
+    ensures { λ r. ⌜ r ≤ at + 260 ⌝ }
+{
+    match r {
+        Refusal::TextTooLong => {
+            return at;
+        }
+        Refusal::RowTooShort => {
+            return at;
+        }
+        Refusal::NotInNetwork => {
+            return at;
+        }
+        Refusal::BoxMisses { arc, node } => {
+            let a = put_between(page, at, b" ", arc, b" ");
+            return put_count(page, a, node);
+        }
+        _ => {
+            return put_between(page, at, b" ", r.place(), b"");
+        }
+    }
+}
+
+// The refusal in a learner's words.
+fn put_words(page: &mut [u8; PAGE], at: usize, r: Refusal) -> usize
+    requires { ⌜ at ≤ 1000 ⌝ }
+    ensures { λ r. ⌜ r ≤ at + 260 ⌝ }
+{
+    match r {
+        Refusal::TextTooLong => {
+            return put(page, at, b"the text is over 65536 bytes");
+        }
+        Refusal::RowTooShort => {
+            return put(page, at, b"a lent row is too short");
+        }
+        Refusal::NoForm { line } => {
+            return put_between(
+                page,
+                at,
+                b"line ",
+                line,
+                b" is not spelt like a line of this kind of file",
+            );
+        }
+        Refusal::OutOfOrder { line } => {
+            return put_between(
+                page,
+                at,
+                b"line ",
+                line,
+                b" is data before the p line or a second p line",
+            );
+        }
+        Refusal::BeyondLimits { line } => {
+            if line == 0 {
+                return put(page, at, b"n, m or the new weight is beyond its limits");
+            }
+            return put_between(
+                page,
+                at,
+                b"a number in line ",
+                line,
+                b" is beyond its limits",
+            );
+        }
+        Refusal::CountsDisagree { line } => {
+            return put_between(page, at, b"the counts disagree at line ", line, b"");
+        }
+        Refusal::NodeAgain { line } => {
+            return put_between(page, at, b"line ", line, b" places a node a second time");
+        }
+        Refusal::BadArc { arc } => {
+            return put_between(page, at, b"arc ", arc, b" has a bad node or weight");
+        }
+        Refusal::BadCoordinate { node } => {
+            return put_between(page, at, b"node ", node, b" has a bad coordinate");
+        }
+        Refusal::BadBox { arc } => {
+            return put_between(page, at, b"the box of arc ", arc, b" is not well shaped");
+        }
+        Refusal::NotInNetwork => {
+            return put(page, at, b"the source, target or arc is not in the network");
+        }
+        Refusal::NoWalk { settled } => {
+            return put_between(
+                page,
+                at,
+                b"no walk leads from the source to the target, settled ",
+                settled,
+                b"",
+            );
+        }
+        Refusal::BoxMisses { arc, node } => {
+            let a = put_between(page, at, b"the box of arc ", arc, b" misses node ");
+            return put_count(page, a, node);
+        }
+    }
+}
+
+// `refused`, the paper's number, all the values, and the words in brackets: a reply of the console.
+pub fn put_refusal(page: &mut [u8; PAGE], r: Refusal) -> usize
+    ensures { λ r. ⌜ r ≤ 1000 ⌝ }
+{
+    let a = put_between(page, 0, b"refused ", r.number(), b"");
+    let b = put_values(page, a, r);
+    let c = put(page, b, b" (");
+    let d = put_words(page, c, r);
+    put(page, d, b")\n")
+}
+
+// The reply where a file cannot be read.
+pub fn put_no_file(page: &mut [u8; PAGE]) -> usize
+    ensures { λ r. ⌜ r ≤ 1000 ⌝ }
+{
+    put(page, 0, b"refused 0 0 (the file cannot be read)\n")
+}

@@ -1,0 +1,91 @@
+// The replies that are fixed words.
+ghost use Prim.Native.Nat.{_≤_};
+use commands::Fault;
+use files::page::PAGE;
+use files::page::put;
+use files::refusals::put_refusal;
+use rules::Judged;
+
+pub fn put_ok(page: &mut [u8; PAGE]) -> usize
+    ensures { λ r. ⌜ r ≤ 1000 ⌝ }
+{
+    put(page, 0, b"ok\n")
+}
+
+pub fn put_help(page: &mut [u8; PAGE]) -> usize
+    ensures { λ r. ⌜ r ≤ 1000 ⌝ }
+{
+    let a = put(
+        page,
+        0,
+        b"commands: n N, m M, lend ROW VALUES, show ROW, show ROW K, gr FILE, co FILE, build, check, ",
+    );
+    put(
+        page,
+        a,
+        b"update ARC WEIGHT, search S T, boxed S T, fresh, help; rows: tails, heads, weights, x, y, boxes, route\n",
+    )
+}
+
+// `ok`, or why a call was refused.
+pub fn put_judged(page: &mut [u8; PAGE], j: Judged) -> usize
+    ensures { λ r. ⌜ r ≤ 1000 ⌝ }
+{
+    match j {
+        Judged::Fine => {
+            return put_ok(page);
+        }
+        Judged::Refused(r) => {
+            return put_refusal(page, r);
+        }
+    }
+}
+
+// Why a line is no command.
+pub fn put_fault(page: &mut [u8; PAGE], fault: Fault) -> usize
+    ensures { λ r. ⌜ r ≤ 1000 ⌝ }
+{
+    match fault {
+        Fault::LongLine => {
+            return put(page, 0, b"? the line is too long\n");
+        }
+        Fault::EmptyLine => {
+            return put(page, 0, b"? the line is empty\n");
+        }
+        Fault::ControlByte => {
+            return put(page, 0, b"? a word holds a carriage return or a tab\n");
+        }
+        Fault::EmptyWord => {
+            return put(
+                page,
+                0,
+                b"? words are divided by single spaces, with none before or after\n",
+            );
+        }
+        Fault::NoCommand => {
+            return put(page, 0, b"? no such command, help names them\n");
+        }
+        Fault::WordCount => {
+            return put(page, 0, b"? a wrong count of words for this command\n");
+        }
+        Fault::NoRow => {
+            return put(page, 0, b"? no such row, help names them\n");
+        }
+        Fault::LongRow => {
+            return put(page, 0, b"? the row has fewer places than that\n");
+        }
+        Fault::Misspelt => {
+            return put(page, 0, b"? a number is misspelt\n");
+        }
+        Fault::BeyondType => {
+            return put(
+                page,
+                0,
+                b"? a number is too small or too large for its place\n",
+            );
+        }
+        Fault::FewerLent => {
+            return put(page, 0, b"? fewer places of the row are lent\n");
+        }
+    }
+}
