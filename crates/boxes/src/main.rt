@@ -36,6 +36,7 @@ fn list_boxes(
     let judged = boxwork::build(n, m, tails, heads, weights, x, y, &mut boxes);
     let Judged::Refused(r) = judged else {
         let arcs = m as usize;
+        // more have been refused
         if 2048 < arcs {
             return 0;
         }

@@ -2,6 +2,7 @@
 use crate::Call;
 use crate::Command;
 use crate::Fault;
+use crate::Request;
 use crate::Shown;
 use crate::faults::Judged;
 use crate::faults::judge_values;
@@ -63,10 +64,10 @@ pub fn show_of(words: &[u8], count: usize) -> Command {
         return Command::Faulty(Fault::NoRow);
     };
     if count == 2 {
-        return Command::Show(row, Shown::All);
+        return Command::Other(Request::Show(row, Shown::All));
     }
     match read_count(after_word(words)) {
-        Count::Is(k) => Command::Show(row, Shown::First(k)),
+        Count::Is(k) => Command::Other(Request::Show(row, Shown::First(k))),
         Count::Not(fault) => Command::Faulty(fault),
     }
 }
@@ -75,8 +76,8 @@ pub fn show_of(words: &[u8], count: usize) -> Command {
 pub fn number_of(verb: Verb, words: &[u8]) -> Command {
     match read_count(words) {
         Count::Is(v) => match verb {
-            Verb::N => Command::SetN(v),
-            _ => Command::SetM(v),
+            Verb::N => Command::Other(Request::SetN(v)),
+            _ => Command::Other(Request::SetM(v)),
         },
         Count::Not(fault) => Command::Faulty(fault),
     }
@@ -86,9 +87,9 @@ pub fn number_of(verb: Verb, words: &[u8]) -> Command {
 pub fn pair_of(verb: Verb, words: &[u8]) -> Command {
     match read_pair(words) {
         Pair::Are(a, b) => match verb {
-            Verb::Update => Command::Call(Call::Update(a, b)),
-            Verb::Search => Command::Call(Call::Search(a, b)),
-            _ => Command::Call(Call::Boxed(a, b)),
+            Verb::Update => Command::Other(Request::Call(Call::Update(a, b))),
+            Verb::Search => Command::Other(Request::Call(Call::Search(a, b))),
+            _ => Command::Other(Request::Call(Call::Boxed(a, b))),
         },
         Pair::Not(fault) => Command::Faulty(fault),
     }

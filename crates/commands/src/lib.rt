@@ -49,18 +49,23 @@ pub enum Shown {
     First(u32),
 }
 
-// What a line asks for. The values of `lend` and the name of a file are read from the line again.
-pub enum Command {
-    Faulty(Fault),
+// What a line asks for that leaves the lent places as they are. The name of a file is read from the line again.
+pub enum Request {
     SetN(u32),
     SetM(u32),
-    Lend(Row),
     Show(Row, Shown),
     ReadGr,
     ReadCo,
     Call(Call),
-    Fresh,
     Help,
+}
+
+// What a line asks for. The values of `lend` are read from the line again.
+pub enum Command {
+    Faulty(Fault),
+    Lend(Row),
+    Fresh,
+    Other(Request),
 }
 
 // The command of a line of `count` words, its first word being `verb` and the others `words`.
@@ -74,13 +79,13 @@ fn ask(verb: Verb, words: &[u8], count: usize) -> Command {
             lend_of(words, count - 2)
         }
         Verb::Show => show_of(words, count),
-        Verb::Gr => Command::ReadGr,
-        Verb::Co => Command::ReadCo,
-        Verb::Build => Command::Call(Call::Build),
-        Verb::Check => Command::Call(Call::Check),
+        Verb::Gr => Command::Other(Request::ReadGr),
+        Verb::Co => Command::Other(Request::ReadCo),
+        Verb::Build => Command::Other(Request::Call(Call::Build)),
+        Verb::Check => Command::Other(Request::Call(Call::Check)),
         Verb::Update | Verb::Search | Verb::Boxed => pair_of(verb, words),
         Verb::Fresh => Command::Fresh,
-        Verb::Help => Command::Help,
+        Verb::Help => Command::Other(Request::Help),
         Verb::NoVerb => Command::Faulty(Fault::NoCommand),
     }
 }

@@ -1,14 +1,18 @@
 // A line is answered: its reply is put on the page.
-ghost use Rattle.console.specs.Rows.{Full, Well};
+ghost use Rattle.console.specs.Rows.{Full, Well, Within};
 use crate::lending::lend;
+use crate::rows::Lent;
 use crate::rows::State;
 use crate::rows::clear_rows;
 use crate::rows::start;
 use commands::Command;
 use commands::Fault;
+use commands::Request;
 use commands::command_of;
 use files::page::PAGE;
+use replies::obey::Sizes;
 use replies::obey::obey;
+use replies::words::put_fault;
 use replies::words::put_ok;
 
 // What a line asks for that has so many bytes.
@@ -25,6 +29,52 @@ fn heard(line: &[u8], length: usize) -> &[u8] {
         return &line[0..length];
     }
     line
+}
+
+// Meets a request with just the places that are lent.
+fn lend_out(
+    page: &mut [u8; PAGE],
+    words: &[u8],
+    request: Request,
+    lent: Lent,
+    sizes: Sizes,
+    tails: &mut [u32],
+    heads: &mut [u32],
+    weights: &mut [u32],
+    x: &mut [i32],
+    y: &mut [i32],
+    boxes: &mut [i32],
+    route: &mut [u32],
+) -> State
+    requires { ⌜ Within lent × Full (now tails) (now heads) (now weights) (now x) (now y) (now boxes) (now route) ⌝ }
+    ensures { λ r. ⌜ Well r ⌝ }
+{
+    let a = lent.tails;
+    let b = lent.heads;
+    let c = lent.weights;
+    let d = lent.x;
+    let e = lent.y;
+    let f = lent.boxes;
+    let g = lent.route;
+    let done = obey(
+        page,
+        words,
+        request,
+        sizes,
+        &mut tails[0..a],
+        &mut heads[0..b],
+        &mut weights[0..c],
+        &mut x[0..d],
+        &mut y[0..e],
+        &mut boxes[0..f],
+        &mut route[0..g],
+    );
+    let next = done.sizes;
+    State {
+        lent,
+        sizes: next,
+        end: done.end,
+    }
 }
 
 // Answers a line of so many bytes. An input that ends has no further line where no byte was left.
@@ -57,6 +107,13 @@ pub fn answer(
     let command = asked(line, length);
     let words = heard(line, length);
     match command {
+        Command::Faulty(fault) => {
+            return State {
+                lent,
+                sizes,
+                end: put_fault(page, fault),
+            };
+        }
         Command::Lend(row) => {
             let more = lend(words, lent, row, tails, heads, weights, x, y, boxes, route);
             return State {
@@ -76,33 +133,21 @@ pub fn answer(
                 end: put_ok(page),
             };
         }
-        _ => {
-            let a = lent.tails;
-            let b = lent.heads;
-            let c = lent.weights;
-            let d = lent.x;
-            let e = lent.y;
-            let f = lent.boxes;
-            let g = lent.route;
-            let done = obey(
+        Command::Other(request) => {
+            return lend_out(
                 page,
                 words,
-                command,
-                sizes,
-                &mut tails[0..a],
-                &mut heads[0..b],
-                &mut weights[0..c],
-                &mut x[0..d],
-                &mut y[0..e],
-                &mut boxes[0..f],
-                &mut route[0..g],
-            );
-            let more = done.sizes;
-            return State {
+                request,
                 lent,
-                sizes: more,
-                end: done.end,
-            };
+                sizes,
+                tails,
+                heads,
+                weights,
+                x,
+                y,
+                boxes,
+                route,
+            );
         }
     }
 }

@@ -1,14 +1,13 @@
-// A command is done, and its reply put on the page.
+// A request is met, and its reply put on the page.
 ghost use Prim.Native.Nat.{_≤_};
 ghost use Rattle.replies.specs.Rows.{Short};
 use crate::calls::make;
 use crate::showing::show_row;
 use crate::texts::read_graph;
 use crate::texts::read_places;
-use crate::words::put_fault;
 use crate::words::put_help;
 use crate::words::put_ok;
-use commands::Command;
+use commands::Request;
 use files::page::PAGE;
 
 // The numbers that are handed in with the rows.
@@ -17,18 +16,17 @@ pub struct Sizes {
     pub m: u32,
 }
 
-// What a command leaves: the numbers from now on, and where its reply ends on the page.
+// What a request leaves: the numbers from now on, and where its reply ends on the page.
 pub struct Done {
     pub sizes: Sizes,
     pub end: usize,
 }
 
-// Does what a line asks for with just the places that are lent. The line still has the name of a file. `lend` and
-// `fresh` change what is lent, and are done already.
+// Does what a line asks for with just the places that are lent. The line still has the name of a file.
 pub fn obey(
     page: &mut [u8; PAGE],
     line: &[u8],
-    command: Command,
+    request: Request,
     sizes: Sizes,
     tails: &mut [u32],
     heads: &mut [u32],
@@ -41,49 +39,37 @@ pub fn obey(
     requires { ⌜ Short (now tails) (now heads) (now weights) (now x) (now y) (now boxes) (now route) ⌝ }
     ensures { λ r. ⌜ r .end ≤ 368640 ⌝ }
 {
-    match command {
-        Command::Faulty(fault) => {
-            return Done {
-                sizes,
-                end: put_fault(page, fault),
-            };
-        }
-        Command::SetN(n) => {
+    match request {
+        Request::SetN(n) => {
             return Done {
                 sizes: Sizes { n, m: sizes.m },
                 end: put_ok(page),
             };
         }
-        Command::SetM(m) => {
+        Request::SetM(m) => {
             return Done {
                 sizes: Sizes { n: sizes.n, m },
                 end: put_ok(page),
             };
         }
-        Command::Show(row, shown) => {
+        Request::Show(row, shown) => {
             let end = show_row(page, row, shown, tails, heads, weights, x, y, boxes, route);
             return Done { sizes, end };
         }
-        Command::ReadGr => {
+        Request::ReadGr => {
             return read_graph(page, line, sizes, tails, heads, weights);
         }
-        Command::ReadCo => {
+        Request::ReadCo => {
             return Done {
                 sizes,
                 end: read_places(page, line, sizes.n, x, y),
             };
         }
-        Command::Call(call) => {
+        Request::Call(call) => {
             let end = make(page, call, sizes, tails, heads, weights, x, y, boxes, route);
             return Done { sizes, end };
         }
-        Command::Lend(_) | Command::Fresh => {
-            return Done {
-                sizes,
-                end: put_ok(page),
-            };
-        }
-        Command::Help => {
+        Request::Help => {
             return Done {
                 sizes,
                 end: put_help(page),

@@ -1,3 +1,4 @@
+-- `console::converse` meets its contract. Assumes nothing.
 use Prim.Native.Nat.{_≤_, _+_, _-_}
 use mathlib.Core.Path.{_≡_}
 use native.Mathlib.Omega.{arith}
@@ -6,13 +7,6 @@ use borrow.Author.Needs.{needs}
 use Rattle.console.specs.Rows.{Well, Full}
 use Rattle.console.proofs.converse.Statement.{statement}
 use Rattle.console.proofs.converse.Tie as tie
-use Rattle.console.proofs.converse.Reads as reads
-use Rattle.console.proofs.converse.Lts as lts
-use Rattle.console.proofs.answer.answer.Reads as answer-reads
-use Rattle.console.proofs.input.read_line.Reads as read-line-reads
-use Rattle.console.proofs.rows.start.Reads as start-reads
-use Rattle.console.proofs.turns_left.Reads as turns-left-reads
-use Rattle.files.proofs.print.out.Reads as out-reads
 
 abbrev Inv-loop : tie.InvT-loop
 Inv-loop line₀ page₀ tails₀ heads₀ weights₀ x₀ y₀ boxes₀ route₀ chunk₀ ahead₀ state₀ turns₀ line page tails heads weights x y boxes route chunk ahead state turns =
@@ -22,35 +16,27 @@ abbrev μ-loop : tie.MeasureT-loop
 μ-loop line₀ page₀ tails₀ heads₀ weights₀ x₀ y₀ boxes₀ route₀ chunk₀ ahead₀ state₀ turns₀ line page tails heads weights x y boxes route chunk ahead state turns =
     turns
 
--- src/main.rt:44:9
 start-requires : tie.Need-start-requires Inv-loop μ-loop
 start-requires c κs = search needs
 
--- src/main.rt:46:5
 loop-holds : tie.Need-loop-holds Inv-loop μ-loop
 loop-holds c = search needs
 
--- src/main.rt:47:13
 read-line-requires : tie.Need-read-line-requires Inv-loop μ-loop
 read-line-requires c κs = search needs
 
--- src/main.rt:49:9
 answer-requires : tie.Need-answer-requires Inv-loop μ-loop
 answer-requires c κs = search needs
 
--- src/main.rt:50:9
 out-requires : tie.Need-out-requires Inv-loop μ-loop
 out-requires c κs = search needs
 
--- src/main.rt:51:9
 turns-left-requires : tie.Need-turns-left-requires Inv-loop μ-loop
 turns-left-requires c κs = c .before .before .before .before .before .before .before .before .before .before .before .before .before .before .before .before .before .before .before .before .before .before .before .before .before .before .before .before .before .loop-test .taken
 
--- src/main.rt:46:5
 loop-less : tie.Need-loop-less Inv-loop μ-loop
 loop-less c = search needs
 
--- src/main.rt:46:5
 loop-again : tie.Need-loop-again Inv-loop μ-loop
 loop-again c =
     let inv = c .before .before .before .before .before .before .before .before .before .before .before .before .before .before .before .before .before .before .before .before .before .before .before .before .before .before .before .before .before .before .before .loop .inv in
@@ -64,39 +50,30 @@ loop-again c =
     let line = c .before .before .before .before .before .before .before .before .before .before .before .before .before .before .before .before .before .before .before .before .before .before .before .before .before .before .line .given in
     (c .before .before .before .before .before .before .before .before .before .before .before .before .before .before .answer .ensures, record { tails = omega arith; heads = omega arith; weights = omega arith; x = omega arith; y = omega arith; boxes = omega arith; route = omega arith }, omega arith)
 
--- src/main.rt:29:1
 same-length : tie.Need-same-length Inv-loop μ-loop
 same-length c = search needs
 
--- src/main.rt:29:1
 same-length-2 : tie.Need-same-length-2 Inv-loop μ-loop
 same-length-2 c = search needs
 
--- src/main.rt:29:1
 same-length-3 : tie.Need-same-length-3 Inv-loop μ-loop
 same-length-3 c = search needs
 
--- src/main.rt:29:1
 same-length-4 : tie.Need-same-length-4 Inv-loop μ-loop
 same-length-4 c = search needs
 
--- src/main.rt:29:1
 same-length-5 : tie.Need-same-length-5 Inv-loop μ-loop
 same-length-5 c = search needs
 
--- src/main.rt:29:1
 same-length-6 : tie.Need-same-length-6 Inv-loop μ-loop
 same-length-6 c = search needs
 
--- src/main.rt:29:1
 same-length-7 : tie.Need-same-length-7 Inv-loop μ-loop
 same-length-7 c = search needs
 
--- src/main.rt:29:1
 same-length-8 : tie.Need-same-length-8 Inv-loop μ-loop
 same-length-8 c = search needs
 
--- src/main.rt:29:1
 returns : tie.Need-returns Inv-loop μ-loop
 returns c = search needs
 

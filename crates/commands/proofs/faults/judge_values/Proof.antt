@@ -1,3 +1,4 @@
+-- `commands::faults::judge_values` meets its contract. Assumes nothing.
 use Prim.Native.Nat.{_≤_, _+_, _-_}
 use native.Mathlib.Omega.{arith}
 use lib.ListN.{length}
@@ -5,12 +6,6 @@ use Rattle.scan.proofs.PieceLaws.{rest-long}
 use borrow.Author.Needs.{needs}
 use Rattle.commands.proofs.faults.judge_values.Statement.{statement}
 use Rattle.commands.proofs.faults.judge_values.Tie as tie
-use Rattle.commands.proofs.faults.judge_values.Reads as reads
-use Rattle.commands.proofs.faults.judge_values.Lts as lts
-use Rattle.commands.proofs.faults.judge_value.Reads as judge-value-reads
-use Rattle.scan.proofs.pieces.first_at.Reads as first-at-reads
-use Rattle.scan.proofs.pieces.front.Reads as front-reads
-use Rattle.scan.proofs.pieces.rest.Reads as rest-reads
 
 abbrev Inv-loop : tie.InvT-loop
 Inv-loop words is-signed at₀ at = at ≤ length words + 1
@@ -18,54 +13,42 @@ Inv-loop words is-signed at₀ at = at ≤ length words + 1
 abbrev μ-loop : tie.MeasureT-loop
 μ-loop words is-signed at₀ at = length words + 1 - at
 
--- src/faults.rt:52:5
 loop-holds : tie.Need-loop-holds Inv-loop μ-loop
 loop-holds c = search needs
 
--- src/faults.rt:53:13
 rest-requires : tie.Need-rest-requires Inv-loop μ-loop
 rest-requires c κs = search needs
 
--- src/faults.rt:54:13
 first-at-requires : tie.Need-first-at-requires Inv-loop μ-loop
 first-at-requires c κs = search needs
 
--- src/faults.rt:55:34
 front-requires : tie.Need-front-requires Inv-loop μ-loop
 front-requires c κs = search needs
 
--- src/faults.rt:55:13
 judge-value-requires : tie.Need-judge-value-requires Inv-loop μ-loop
 judge-value-requires c κs = search needs
 
 enum-told : tie.Need-enum-told Inv-loop μ-loop
 enum-told c = search needs
 
--- src/faults.rt:57:13
 enum-told-2 : tie.Need-enum-told-2 Inv-loop μ-loop
 enum-told-2 c = search needs
 
--- src/faults.rt:57:13
 returns : tie.Need-returns Inv-loop μ-loop
 returns c = search needs
 
--- src/faults.rt:59:14
 add-at : tie.Need-add-at Inv-loop μ-loop
 add-at c = let l = rest-long (c .before .before .before .before .before .before .before .before .before .args .words .now) (c .before .before .before .before .before .rest .result .now) (c .before .before .before .before .before .before .before .loop .at) (c .before .before .before .before .before .rest .ensures) in omega arith
 
--- src/faults.rt:59:14
 add-at-2 : tie.Need-add-at-2 Inv-loop μ-loop
 add-at-2 c = let l = rest-long (c .before .before .before .before .before .before .before .before .before .args .words .now) (c .before .before .before .before .before .rest .result .now) (c .before .before .before .before .before .before .before .loop .at) (c .before .before .before .before .before .rest .ensures) in omega arith
 
--- src/faults.rt:52:5
 loop-less : tie.Need-loop-less Inv-loop μ-loop
 loop-less c = let l = rest-long (c .before .before .before .before .before .before .before .before .before .args .words .now) (c .before .before .before .before .before .rest .result .now) (c .before .before .before .before .before .before .before .loop .at) (c .before .before .before .before .before .rest .ensures) in omega arith
 
--- src/faults.rt:52:5
 loop-again : tie.Need-loop-again Inv-loop μ-loop
 loop-again c = let l = rest-long (c .before .before .before .before .before .before .before .before .before .args .words .now) (c .before .before .before .before .before .rest .result .now) (c .before .before .before .before .before .before .before .loop .at) (c .before .before .before .before .before .rest .ensures) in omega arith
 
--- src/faults.rt:50:1
 returns-2 : tie.Need-returns-2 Inv-loop μ-loop
 returns-2 c = search needs
 

@@ -1,37 +1,28 @@
+-- `commands::numbers::read_count` meets its contract. Assumes nothing.
 use mathlib.Core.Path.{_≡_, sym, ap, _∙_}
 use Rattle.commands.proofs.NumberLaws.{count-none, count-high, count-is}
 use borrow.Author.Needs.{needs}
 use Rattle.commands.proofs.numbers.read_count.Statement.{statement}
 use Rattle.commands.proofs.numbers.read_count.Tie as tie
-use Rattle.commands.proofs.numbers.read_count.Reads as reads
-use Rattle.commands.proofs.numbers.read_count.Lts as lts
-use Rattle.commands.proofs.numbers.read_spelt.Reads as read-spelt-reads
 
--- src/numbers.rt:79:9
 read-spelt-requires : tie.Need-read-spelt-requires
 read-spelt-requires c κs = search needs
 
--- src/numbers.rt:80:21
 enum-known-a : tie.Need-enum-known-a
 enum-known-a c = search needs
 
--- src/numbers.rt:81:27
 enum-told : tie.Need-enum-told
 enum-told c = search needs
 
--- src/numbers.rt:81:9
 returns : tie.Need-returns
 returns c = count-none _ (sym (c .enum-told .given .1) ∙ c .before .before .read-spelt .ensures)
 
--- src/numbers.rt:84:9
 returns-2 : tie.Need-returns-2
 returns-2 c = count-high _ _ (sym (c .before .before .a .given .1) ∙ c .before .before .before .before .read-spelt .ensures) (c .if1 .taken)
 
--- src/numbers.rt:86:15
 cast-t7 : tie.Need-cast-t7
 cast-t7 c = search needs
 
--- src/numbers.rt:76:1
 returns-3 : tie.Need-returns-3
 returns-3 c = count-is _ _ (sym (c .before .before .a .given .1) ∙ c .before .before .before .before .read-spelt .ensures) (c .if1 .left)
 

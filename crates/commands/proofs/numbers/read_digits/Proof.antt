@@ -1,3 +1,4 @@
+-- `commands::numbers::read_digits` meets its contract. Assumes nothing.
 use Rattle.commands.specs.declared.numbers.Spelt.the-variants.{Held}
 use Prim.Native.Nat.{ℕ, _≤_, _<_, _-_, _+_}
 use mathlib.Core.Path.{_≡_, refl, sym, _∙_, ap}

@@ -1,3 +1,4 @@
+-- `commands::numbers::read_signed` meets its contract. Assumes nothing.
 use mathlib.Core.Path.{_≡_, sym, ap, _∙_}
 use mir.Facts.{toZ-ofZ}
 use borrow.Author.Needs.{sfits-of}
@@ -7,92 +8,68 @@ use Rattle.commands.proofs.NumberLaws.{minus-none, minus-zero, minus-hi
 use borrow.Author.Needs.{needs}
 use Rattle.commands.proofs.numbers.read_signed.Statement.{statement}
 use Rattle.commands.proofs.numbers.read_signed.Tie as tie
-use Rattle.commands.proofs.numbers.read_signed.Reads as reads
-use Rattle.commands.proofs.numbers.read_signed.Lts as lts
-use Rattle.commands.proofs.numbers.minus.Reads as minus-reads
-use Rattle.commands.proofs.numbers.plus.Reads as plus-reads
-use Rattle.commands.proofs.numbers.read_spelt.Reads as read-spelt-reads
-use Rattle.scan.proofs.pieces.first_byte.Reads as first-byte-reads
-use Rattle.scan.proofs.pieces.rest.Reads as rest-reads
 
--- src/numbers.rt:107:8
 first-byte-requires : tie.Need-first-byte-requires
 first-byte-requires c κs = search needs
 
--- src/numbers.rt:108:28
 rest-requires : tie.Need-rest-requires
 rest-requires c κs = some-byte (c .before .before .before .args .s .now) _ (c .before .first-byte .ensures) (c .if1 .taken)
 
--- src/numbers.rt:108:13
 read-spelt-requires : tie.Need-read-spelt-requires
 read-spelt-requires c κs = search needs
 
--- src/numbers.rt:109:25
 enum-known-a : tie.Need-enum-known-a
 enum-known-a c = search needs
 
--- src/numbers.rt:110:32
 enum-told : tie.Need-enum-told
 enum-told c = search needs
 
--- src/numbers.rt:110:13
 returns : tie.Need-returns
 returns c =
     minus-none _ (sym (c .enum-told .given .1) ∙ c .before .before .read-spelt .ensures)
     ∙ by-minus (c .before .before .before .before .before .before .before .args .s .now) _ (c .before .before .before .before .before .first-byte .ensures) _ (c .before .before .before .rest .ensures) (c .before .before .before .before .if1 .taken)
 
--- src/numbers.rt:113:13
 returns-2 : tie.Need-returns-2
 returns-2 c =
     minus-zero _ _ (sym (c .before .before .a .given .1) ∙ c .before .before .before .before .read-spelt .ensures) (c .if2 .taken)
     ∙ by-minus (c .before .before .before .before .before .before .before .before .before .args .s .now) _ (c .before .before .before .before .before .before .before .first-byte .ensures) _ (c .before .before .before .before .before .rest .ensures) (c .before .before .before .before .before .before .if1 .taken)
 
--- src/numbers.rt:116:13
 returns-3 : tie.Need-returns-3
 returns-3 c =
     minus-high _ _ (sym (c .before .before .before .a .given .1) ∙ c .before .before .before .before .before .read-spelt .ensures) (c .if3 .taken)
     ∙ by-minus (c .before .before .before .before .before .before .before .before .before .before .args .s .now) _ (c .before .before .before .before .before .before .before .before .first-byte .ensures) _ (c .before .before .before .before .before .before .rest .ensures) (c .before .before .before .before .before .before .before .if1 .taken)
 
--- src/numbers.rt:118:27
 minus-requires : tie.Need-minus-requires
 minus-requires c κs = search needs
 
--- src/numbers.rt:118:9
 returns-4 : tie.Need-returns-4
 returns-4 c =
     ap signed.Is (toZ-ofZ (sfits-of (c .minus .ok)) ∙ c .minus .ensures)
     ∙ minus-is _ _ (sym (c .before .before .before .before .a .given .1) ∙ c .before .before .before .before .before .before .read-spelt .ensures) (c .before .before .if2 .left) (c .before .if3 .left)
     ∙ by-minus (c .before .before .before .before .before .before .before .before .before .before .before .args .s .now) _ (c .before .before .before .before .before .before .before .before .before .first-byte .ensures) _ (c .before .before .before .before .before .before .before .rest .ensures) (c .before .before .before .before .before .before .before .before .if1 .taken)
 
--- src/numbers.rt:120:9
 read-spelt-requires-2 : tie.Need-read-spelt-requires-2
 read-spelt-requires-2 c κs = search needs
 
--- src/numbers.rt:121:21
 enum-known-b : tie.Need-enum-known-b
 enum-known-b c = search needs
 
--- src/numbers.rt:122:28
 enum-told-2 : tie.Need-enum-told-2
 enum-told-2 c = search needs
 
--- src/numbers.rt:122:9
 returns-5 : tie.Need-returns-5
 returns-5 c =
     plain-none _ (sym (c .enum-told2 .given .1) ∙ c .before .before .read-spelt2 .ensures)
     ∙ by-plain (c .before .before .before .before .before .before .args .s .now) _ (c .before .before .before .before .first-byte .ensures) (c .before .before .before .if1 .left)
 
--- src/numbers.rt:125:9
 returns-6 : tie.Need-returns-6
 returns-6 c =
     plain-high _ _ (sym (c .before .before .b .given .1) ∙ c .before .before .before .before .read-spelt2 .ensures) (c .if4 .taken)
     ∙ by-plain (c .before .before .before .before .before .before .before .before .args .s .now) _ (c .before .before .before .before .before .before .first-byte .ensures) (c .before .before .before .before .before .if1 .left)
 
--- src/numbers.rt:127:16
 plus-requires : tie.Need-plus-requires
 plus-requires c κs = search needs
 
--- src/numbers.rt:104:1
 returns-7 : tie.Need-returns-7
 returns-7 c =
     ap signed.Is (toZ-ofZ (sfits-of (c .plus .ok)) ∙ c .plus .ensures)

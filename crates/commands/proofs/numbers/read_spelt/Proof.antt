@@ -1,3 +1,4 @@
+-- `commands::numbers::read_spelt` meets its contract. Assumes nothing.
 use Rattle.commands.specs.Numbers.{heldNumber}
 use Rattle.scan.proofs.NumberLaws.{natural-none, natural-one, natural-padded, natural-more}
 use mathlib.Core.Path.{_≡_, sym, ap, _∙_}

@@ -1,3 +1,4 @@
+-- `commands::words::after_word` meets its contract. Assumes nothing.
 use Prim.Native.Nat.{_≤_, _+_}
 use mathlib.Core.Path.{_≡_, _∙_, sym}
 use native.Mathlib.Omega.{arith}
@@ -7,32 +8,22 @@ use Rattle.scan.specs.Pieces.{firstAt}
 use borrow.Author.Needs.{needs}
 use Rattle.commands.proofs.words.after_word.Statement.{statement}
 use Rattle.commands.proofs.words.after_word.Tie as tie
-use Rattle.commands.proofs.words.after_word.Reads as reads
-use Rattle.commands.proofs.words.after_word.Lts as lts
-use Rattle.scan.proofs.pieces.first_at.Reads as first-at-reads
-use Rattle.scan.proofs.pieces.rest.Reads as rest-reads
 
--- src/words.rt:21:9
 first-at-requires : tie.Need-first-at-requires
 first-at-requires c κs = search needs
 
--- src/words.rt:23:24
 add-rest : tie.Need-add-rest
 add-rest c = search needs
 
--- src/words.rt:23:9
 rest-requires : tie.Need-rest-requires
 rest-requires c κs = search needs
 
--- src/words.rt:23:9
 returns : tie.Need-returns
 returns c = rw (c .before .before .first-at .ensures .0) at (c .rest .ensures)
 
--- src/words.rt:25:5
 rest-requires-2 : tie.Need-rest-requires-2
 rest-requires-2 c κs = search needs
 
--- src/words.rt:18:1
 returns-2 : tie.Need-returns-2
 returns-2 c =
     let s = c .before .before .before .before .args .s .now in

@@ -1,3 +1,4 @@
+-- `commands::words::are_apart` meets its contract. Assumes nothing.
 use Prim.Native.Nat.{ℕ, _≤_, _<_, _-_, _+_}
 use mathlib.Core.Path.{_≡_, refl, sym, _∙_, ap}
 use native.Mathlib.Omega.{arith}
@@ -5,8 +6,6 @@ use lib.ListN.{length, getD, drop}
 use borrow.Author.Needs.{needs}
 use Rattle.commands.proofs.words.are_apart.Statement.{statement}
 use Rattle.commands.proofs.words.are_apart.Tie as tie
-use Rattle.commands.proofs.words.are_apart.Reads as reads
-use Rattle.commands.proofs.words.are_apart.Lts as lts
 
 abbrev Inv-loop : tie.InvT-loop
 Inv-loop s was-space₀ i₀ was-space i = i ≤ length s
@@ -14,31 +13,24 @@ Inv-loop s was-space₀ i₀ was-space i = i ≤ length s
 abbrev μ-loop : tie.MeasureT-loop
 μ-loop s was-space₀ i₀ was-space i = length s - i
 
--- src/words.rt:36:5
 loop-holds : tie.Need-loop-holds Inv-loop μ-loop
 loop-holds c = search needs
 
--- src/words.rt:37:24
 shared-slice-read-is-space : tie.Need-shared-slice-read-is-space Inv-loop μ-loop
 shared-slice-read-is-space c = search needs
 
--- src/words.rt:39:13
 returns : tie.Need-returns Inv-loop μ-loop
 returns c = search needs
 
--- src/words.rt:42:9
 add-i : tie.Need-add-i Inv-loop μ-loop
 add-i c = search needs
 
--- src/words.rt:36:5
 loop-less : tie.Need-loop-less Inv-loop μ-loop
 loop-less c = search needs
 
--- src/words.rt:36:5
 loop-again : tie.Need-loop-again Inv-loop μ-loop
 loop-again c = search needs
 
--- src/words.rt:33:1
 returns-2 : tie.Need-returns-2 Inv-loop μ-loop
 returns-2 c = search needs
 

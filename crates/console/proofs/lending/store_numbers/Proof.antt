@@ -1,3 +1,4 @@
+-- `console::lending::store_numbers` meets its contract. Assumes nothing.
 use Rattle.scan.proofs.PieceLaws.{rest-long}
 use Prim.Native.Nat.{_≤_, _+_, _-_, _*_}
 use mathlib.Core.Path.{_≡_}
@@ -6,12 +7,6 @@ use lib.ListN.{length, length-set}
 use borrow.Author.Needs.{needs}
 use Rattle.console.proofs.lending.store_numbers.Statement.{statement}
 use Rattle.console.proofs.lending.store_numbers.Tie as tie
-use Rattle.console.proofs.lending.store_numbers.Reads as reads
-use Rattle.console.proofs.lending.store_numbers.Lts as lts
-use Rattle.commands.proofs.numbers.read_signed.Reads as read-signed-reads
-use Rattle.scan.proofs.pieces.first_at.Reads as first-at-reads
-use Rattle.scan.proofs.pieces.front.Reads as front-reads
-use Rattle.scan.proofs.pieces.rest.Reads as rest-reads
 
 abbrev Inv-loop : tie.InvT-loop
 Inv-loop row₀ words at₀ i₀ row at i = (at ≤ length words + 1) × (i ≤ length row) × (length row ≡ length row₀)
@@ -19,85 +14,65 @@ Inv-loop row₀ words at₀ i₀ row at i = (at ≤ length words + 1) × (i ≤ 
 abbrev μ-loop : tie.MeasureT-loop
 μ-loop row₀ words at₀ i₀ row at i = length words + 1 - at
 
--- src/lending.rt:44:5
 loop-holds : tie.Need-loop-holds Inv-loop μ-loop
 loop-holds c = search needs
 
--- src/lending.rt:45:13
 rest-requires : tie.Need-rest-requires Inv-loop μ-loop
 rest-requires c κs = search needs
 
--- src/lending.rt:46:13
 first-at-requires : tie.Need-first-at-requires Inv-loop μ-loop
 first-at-requires c κs = search needs
 
--- src/lending.rt:47:32
 front-requires : tie.Need-front-requires Inv-loop μ-loop
 front-requires c κs = search needs
 
--- src/lending.rt:47:13
 read-signed-requires : tie.Need-read-signed-requires Inv-loop μ-loop
 read-signed-requires c κs = search needs
 
--- src/lending.rt:48:24
 enum-known-word : tie.Need-enum-known-word Inv-loop μ-loop
 enum-known-word c = search needs
 
--- src/lending.rt:49:13
 enum-told : tie.Need-enum-told Inv-loop μ-loop
 enum-told c = search needs
 
--- src/lending.rt:49:13
 same-length : tie.Need-same-length Inv-loop μ-loop
 same-length c = search needs
 
--- src/lending.rt:49:13
 returns : tie.Need-returns Inv-loop μ-loop
 returns c = search needs
 
--- src/lending.rt:52:13
 same-length-2 : tie.Need-same-length-2 Inv-loop μ-loop
 same-length-2 c = search needs
 
--- src/lending.rt:52:13
 returns-2 : tie.Need-returns-2 Inv-loop μ-loop
 returns-2 c = search needs
 
--- src/lending.rt:54:9
 mul-z : tie.Need-mul-z Inv-loop μ-loop
 mul-z c = search needs
 
--- src/lending.rt:54:9
 slice-set-from-z : tie.Need-slice-set-from-z Inv-loop μ-loop
 slice-set-from-z c = search needs
 
--- src/lending.rt:55:9
 add-i : tie.Need-add-i Inv-loop μ-loop
 add-i c = search needs
 
--- src/lending.rt:56:14
 add-at : tie.Need-add-at Inv-loop μ-loop
 add-at c = search needs
 
--- src/lending.rt:56:14
 add-at-2 : tie.Need-add-at-2 Inv-loop μ-loop
 add-at-2 c = search needs
 
--- src/lending.rt:44:5
 loop-less : tie.Need-loop-less Inv-loop μ-loop
 loop-less c = search needs
 
--- src/lending.rt:44:5
 loop-again : tie.Need-loop-again Inv-loop μ-loop
 loop-again c =
     let l = rest-long (c .before .before .before .before .before .before .before .before .before .before .before .args .words .now) (c .before .before .before .before .before .before .before .rest .result .now) (c .before .before .before .before .before .before .before .before .before .loop .at) (c .before .before .before .before .before .before .before .rest .ensures) in
     simp length-set (omega arith, omega arith, omega arith)
 
--- src/lending.rt:39:1
 same-length-3 : tie.Need-same-length-3 Inv-loop μ-loop
 same-length-3 c = search needs
 
--- src/lending.rt:39:1
 returns-3 : tie.Need-returns-3 Inv-loop μ-loop
 returns-3 c = search needs
 

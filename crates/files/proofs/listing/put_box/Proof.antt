@@ -1,3 +1,4 @@
+-- `files::listing::put_box` meets its contract. Assumes nothing.
 use Prim.Native.Nat.{ℕ, _≤_, _+_, _-_, _*_}
 use mathlib.Core.Path.{_≡_, _∙_, ap, sym, refl}
 use native.Mathlib.Omega.{arith}
@@ -11,81 +12,58 @@ use Rattle.files.specs.Listing.{wholeField}
 use borrow.Author.Needs.{needs}
 use Rattle.files.proofs.listing.put_box.Statement.{statement}
 use Rattle.files.proofs.listing.put_box.Tie as tie
-use Rattle.files.proofs.listing.put_box.Reads as reads
-use Rattle.files.proofs.listing.put_box.Lts as lts
-use Rattle.files.proofs.listing.put_number_field.Reads as put-number-field-reads
-use Rattle.files.proofs.page.put.Reads as put-reads
-use Rattle.files.proofs.page.put_number.Reads as put-number-reads
 
--- src/listing.rt:36:40
 mul-put-number-field : tie.Need-mul-put-number-field
 mul-put-number-field c = search needs
 
--- src/listing.rt:36:40
 shared-slice-copy-out-put-number-field : tie.Need-shared-slice-copy-out-put-number-field
 shared-slice-copy-out-put-number-field c = search needs
 
--- src/listing.rt:36:9
 put-number-field-requires : tie.Need-put-number-field-requires
 put-number-field-requires c κs = search needs
 
--- src/listing.rt:37:45
 add-put-number-field : tie.Need-add-put-number-field
 add-put-number-field c = search needs
 
--- src/listing.rt:37:39
 mul-put-number-field-2 : tie.Need-mul-put-number-field-2
 mul-put-number-field-2 c = search needs
 
--- src/listing.rt:37:39
 shared-slice-copy-out-put-number-field-2 : tie.Need-shared-slice-copy-out-put-number-field-2
 shared-slice-copy-out-put-number-field-2 c = search needs
 
--- src/listing.rt:37:9
 put-number-field-requires-2 : tie.Need-put-number-field-requires-2
 put-number-field-requires-2 c κs = search needs
 
--- src/listing.rt:38:45
 add-put-number-field-2 : tie.Need-add-put-number-field-2
 add-put-number-field-2 c = search needs
 
--- src/listing.rt:38:39
 mul-put-number-field-3 : tie.Need-mul-put-number-field-3
 mul-put-number-field-3 c = search needs
 
--- src/listing.rt:38:39
 shared-slice-copy-out-put-number-field-3 : tie.Need-shared-slice-copy-out-put-number-field-3
 shared-slice-copy-out-put-number-field-3 c = search needs
 
--- src/listing.rt:38:9
 put-number-field-requires-3 : tie.Need-put-number-field-requires-3
 put-number-field-requires-3 c κs = search needs
 
--- src/listing.rt:39:39
 add-put-number : tie.Need-add-put-number
 add-put-number c = search needs
 
--- src/listing.rt:39:33
 mul-put-number : tie.Need-mul-put-number
 mul-put-number c = search needs
 
--- src/listing.rt:39:33
 shared-slice-copy-out-put-number : tie.Need-shared-slice-copy-out-put-number
 shared-slice-copy-out-put-number c = search needs
 
--- src/listing.rt:39:9
 put-number-requires : tie.Need-put-number-requires
 put-number-requires c κs = search needs
 
--- src/listing.rt:40:18
 slice-aggregate-put : tie.Need-slice-aggregate-put
 slice-aggregate-put c = search needs
 
--- src/listing.rt:40:5
 put-requires : tie.Need-put-requires
 put-requires c κs = search needs
 
--- src/listing.rt:31:1
 returns : tie.Need-returns
 returns c =
     let d = c .before .before .before in

@@ -1,3 +1,4 @@
+-- `files::listing::put_count_field` meets its contract. Assumes nothing.
 use Prim.Native.Nat.{ℕ, _≤_, _+_, _-_, _*_}
 use mathlib.Core.Path.{_≡_, _∙_, ap, sym, refl}
 use native.Mathlib.Omega.{arith}
@@ -5,24 +6,16 @@ use Rattle.files.proofs.PageLaws.{puts-both, puts-same}
 use borrow.Author.Needs.{needs}
 use Rattle.files.proofs.listing.put_count_field.Statement.{statement}
 use Rattle.files.proofs.listing.put_count_field.Tie as tie
-use Rattle.files.proofs.listing.put_count_field.Reads as reads
-use Rattle.files.proofs.listing.put_count_field.Lts as lts
-use Rattle.files.proofs.page.put.Reads as put-reads
-use Rattle.files.proofs.page.put_count.Reads as put-count-reads
 
--- src/listing.rt:17:9
 put-count-requires : tie.Need-put-count-requires
 put-count-requires c κs = search needs
 
--- src/listing.rt:18:20
 slice-aggregate-put : tie.Need-slice-aggregate-put
 slice-aggregate-put c = search needs
 
--- src/listing.rt:18:5
 put-requires : tie.Need-put-requires
 put-requires c κs = search needs
 
--- src/listing.rt:12:1
 returns : tie.Need-returns
 returns c = (puts-both (c .before .before .before .put-count .ensures .0) (c .put .ensures), omega arith)
 

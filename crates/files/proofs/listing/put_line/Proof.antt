@@ -1,3 +1,4 @@
+-- `files::listing::put_line` meets its contract. Assumes nothing.
 use Prim.Native.Nat.{ℕ, _≤_, _+_, _-_, _*_}
 use mathlib.Core.Path.{_≡_, _∙_, ap, sym, refl}
 use native.Mathlib.Omega.{arith}
@@ -6,68 +7,49 @@ use Rattle.files.specs.Listing.{lineText}
 use borrow.Author.Needs.{needs}
 use Rattle.files.proofs.listing.put_line.Statement.{statement}
 use Rattle.files.proofs.listing.put_line.Tie as tie
-use Rattle.files.proofs.listing.put_line.Reads as reads
-use Rattle.files.proofs.listing.put_line.Lts as lts
-use Rattle.files.proofs.listing.put_box.Reads as put-box-reads
-use Rattle.files.proofs.listing.put_count_field.Reads as put-count-field-reads
 
--- src/listing.rt:57:40
 add-put-count-field : tie.Need-add-put-count-field
 add-put-count-field c = search needs
 
--- src/listing.rt:57:39
 cast-put-count-field : tie.Need-cast-put-count-field
 cast-put-count-field c = search needs
 
--- src/listing.rt:57:9
 put-count-field-requires : tie.Need-put-count-field-requires
 put-count-field-requires c κs = search needs
 
--- src/listing.rt:58:38
 mul-put-count-field : tie.Need-mul-put-count-field
 mul-put-count-field c = search needs
 
--- src/listing.rt:58:38
 shared-slice-read-put-count-field : tie.Need-shared-slice-read-put-count-field
 shared-slice-read-put-count-field c = search needs
 
--- src/listing.rt:58:9
 put-count-field-requires-2 : tie.Need-put-count-field-requires-2
 put-count-field-requires-2 c κs = search needs
 
--- src/listing.rt:59:38
 mul-put-count-field-2 : tie.Need-mul-put-count-field-2
 mul-put-count-field-2 c = search needs
 
--- src/listing.rt:59:38
 shared-slice-read-put-count-field-2 : tie.Need-shared-slice-read-put-count-field-2
 shared-slice-read-put-count-field-2 c = search needs
 
--- src/listing.rt:59:9
 put-count-field-requires-3 : tie.Need-put-count-field-requires-3
 put-count-field-requires-3 c κs = search needs
 
--- src/listing.rt:60:38
 mul-put-count-field-3 : tie.Need-mul-put-count-field-3
 mul-put-count-field-3 c = search needs
 
--- src/listing.rt:60:38
 shared-slice-read-put-count-field-3 : tie.Need-shared-slice-read-put-count-field-3
 shared-slice-read-put-count-field-3 c = search needs
 
--- src/listing.rt:60:9
 put-count-field-requires-4 : tie.Need-put-count-field-requires-4
 put-count-field-requires-4 c κs = search needs
 
--- src/listing.rt:61:29
 mul-put-box : tie.Need-mul-put-box
 mul-put-box c = search needs
 
--- src/listing.rt:61:5
 put-box-requires : tie.Need-put-box-requires
 put-box-requires c κs = search needs
 
--- src/listing.rt:44:1
 returns : tie.Need-returns
 unfolding lineText
 returns c =

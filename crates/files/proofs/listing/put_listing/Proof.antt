@@ -1,3 +1,4 @@
+-- `files::listing::put_listing` meets its contract. Assumes nothing.
 use Prim.Native.Nat.{ℕ, _≤_, _+_, _-_, _*_}
 use mathlib.Core.Path.{_≡_, _∙_, ap, sym, refl}
 use native.Mathlib.Omega.{arith}
@@ -8,9 +9,6 @@ use Rattle.files.specs.Page.{Puts}
 use Rattle.files.specs.Listing.{listing}
 use Rattle.files.proofs.listing.put_listing.Statement.{statement}
 use Rattle.files.proofs.listing.put_listing.Tie as tie
-use Rattle.files.proofs.listing.put_listing.Reads as reads
-use Rattle.files.proofs.listing.put_listing.Lts as lts
-use Rattle.files.proofs.listing.put_line.Reads as put-line-reads
 
 abbrev Inv-loop : tie.InvT-loop
 Inv-loop page₀ m tails heads weights boxes at₀ i₀ page at i = (i ≤ m) × (at ≤ 176 * i) × Puts (listing tails heads weights boxes i) 0 page₀ at page
@@ -18,31 +16,25 @@ Inv-loop page₀ m tails heads weights boxes at₀ i₀ page at i = (i ≤ m) ×
 abbrev μ-loop : tie.MeasureT-loop
 μ-loop page₀ m tails heads weights boxes at₀ i₀ page at i = m - i
 
--- src/listing.rt:79:5
 loop-holds : tie.Need-loop-holds Inv-loop μ-loop
 unfolding listing
 loop-holds c = (search needs, omega arith, puts-none)
 
--- src/listing.rt:80:9
 put-line-requires : tie.Need-put-line-requires Inv-loop μ-loop
 put-line-requires c κs = search needs
 
--- src/listing.rt:81:9
 add-i : tie.Need-add-i Inv-loop μ-loop
 add-i c = search needs
 
--- src/listing.rt:79:5
 loop-less : tie.Need-loop-less Inv-loop μ-loop
 loop-less c = search needs
 
--- src/listing.rt:79:5
 loop-again : tie.Need-loop-again Inv-loop μ-loop
 unfolding listing
 loop-again c =
     let l = c .before .before .before .loop in
     (omega arith, omega arith, rw (add-one (l .i)) (puts-both (l .inv .2) (c .put-line .ensures .0)))
 
--- src/listing.rt:65:1
 returns : tie.Need-returns Inv-loop μ-loop
 returns c =
     let l = c .before .loop in

@@ -1,3 +1,4 @@
+-- `files::listing::put_number_field` meets its contract. Assumes nothing.
 use Prim.Native.Nat.{ℕ, _≤_, _+_, _-_, _*_}
 use mathlib.Core.Path.{_≡_, _∙_, ap, sym, refl}
 use native.Mathlib.Omega.{arith}
@@ -11,24 +12,16 @@ use Rattle.files.specs.Listing.{wholeField}
 use borrow.Author.Needs.{needs}
 use Rattle.files.proofs.listing.put_number_field.Statement.{statement}
 use Rattle.files.proofs.listing.put_number_field.Tie as tie
-use Rattle.files.proofs.listing.put_number_field.Reads as reads
-use Rattle.files.proofs.listing.put_number_field.Lts as lts
-use Rattle.files.proofs.page.put.Reads as put-reads
-use Rattle.files.proofs.page.put_number.Reads as put-number-reads
 
--- src/listing.rt:26:9
 put-number-requires : tie.Need-put-number-requires
 put-number-requires c κs = search needs
 
--- src/listing.rt:27:20
 slice-aggregate-put : tie.Need-slice-aggregate-put
 slice-aggregate-put c = search needs
 
--- src/listing.rt:27:5
 put-requires : tie.Need-put-requires
 put-requires c κs = search needs
 
--- src/listing.rt:21:1
 returns : tie.Need-returns
 returns c =
     let a = c .before .before .before .before .before in

@@ -1,3 +1,4 @@
+-- `files::page::put_decimal` meets its contract. Assumes nothing.
 use Prim.Native.Nat.{_≤_}
 use mathlib.Core.Path.{_∙_}
 use native.Mathlib.Omega.{arith}
@@ -6,31 +7,22 @@ use Rattle.files.specs.Decimal.{decimal}
 use Rattle.files.proofs.DecimalLaws.{digits-spelt, few-digits}
 use Rattle.files.proofs.page.put_decimal.Statement.{statement}
 use Rattle.files.proofs.page.put_decimal.Tie as tie
-use Rattle.files.proofs.page.put_decimal.Reads as reads
-use Rattle.files.proofs.page.put_decimal.Lts as lts
-use Rattle.files.proofs.page.put.Reads as put-reads
-use Rattle.io.proofs.decimal.Reads as decimal-reads
 
--- src/page.rt:32:9
 decimal-requires : tie.Need-decimal-requires
 decimal-requires c κs = search needs
 
--- src/page.rt:33:19
 array-share-prefix-digits : tie.Need-array-share-prefix-digits
 array-share-prefix-digits c = search needs
 
--- src/page.rt:33:19
 slice-aggregate-put : tie.Need-slice-aggregate-put
 slice-aggregate-put c = search needs
 
--- src/page.rt:33:5
 put-requires : tie.Need-put-requires
 put-requires c κs =
     let d = c .before .before .decimal .ensures in
     let few = few-digits _ _ (c .before .before .before .before .fits .n .fits) (d .1 .0) in
     omega (arith, d .0 .1)
 
--- src/page.rt:26:1
 returns : tie.Need-returns
 unfolding decimal
 returns c =

@@ -1,3 +1,4 @@
+-- `files::page::put_number` meets its contract. Assumes nothing.
 use Prim.Native.Nat.{ℕ}
 use mathlib.Core.Path.{_∙_, ap, sym}
 use mathlib.Core.List.{_∷_}
@@ -10,29 +11,19 @@ use Rattle.files.proofs.PageLaws.{puts-both, puts-same}
 use Rattle.files.proofs.DecimalLaws.{whole-minus, whole-plus}
 use Rattle.files.proofs.page.put_number.Statement.{statement}
 use Rattle.files.proofs.page.put_number.Tie as tie
-use Rattle.files.proofs.page.put_number.Reads as reads
-use Rattle.files.proofs.page.put_number.Lts as lts
-use Rattle.files.proofs.page.put.Reads as put-reads
-use Rattle.files.proofs.page.put_decimal.Reads as put-decimal-reads
-use Rattle.files.proofs.page.size.Reads as size-reads
 
--- src/page.rt:62:35
 slice-aggregate-put : tie.Need-slice-aggregate-put
 slice-aggregate-put c = search needs
 
--- src/page.rt:62:13
 put-requires : tie.Need-put-requires
 put-requires c κs = search needs
 
--- src/page.rt:63:41
 size-requires : tie.Need-size-requires
 size-requires c κs = search needs
 
--- src/page.rt:63:9
 put-decimal-requires : tie.Need-put-decimal-requires
 put-decimal-requires c κs = search needs
 
--- src/page.rt:63:9
 returns : tie.Need-returns
 returns c =
     let b = c .before .before .before .before .before .before in
@@ -42,15 +33,12 @@ returns c =
     let sized = ap (λ (m : ℕ). 45 ∷ decimal m) (rw plain at (c .before .size .ensures)) in
     (puts-same (sized ∙ whole-minus z sign) (puts-both (c .before .before .before .put .ensures) (c .put-decimal .ensures .0)), omega arith)
 
--- src/page.rt:65:27
 size-requires-2 : tie.Need-size-requires-2
 size-requires-2 c κs = search needs
 
--- src/page.rt:65:5
 put-decimal-requires-2 : tie.Need-put-decimal-requires-2
 put-decimal-requires-2 c κs = search needs
 
--- src/page.rt:56:1
 returns-2 : tie.Need-returns-2
 returns-2 c =
     let b = c .before .before .before in

@@ -1,3 +1,4 @@
+-- `files::reading::read_on` meets its contract. Assumes nothing.
 use Prim.Native.Nat.{_≤_, _+_, _-_}
 use mathlib.Core.Path.{_≡_}
 use lib.ListN.{length}
@@ -5,9 +6,6 @@ use native.Mathlib.Omega.{arith}
 use borrow.Author.Needs.{needs}
 use Rattle.files.proofs.reading.read_on.Statement.{statement}
 use Rattle.files.proofs.reading.read_on.Tie as tie
-use Rattle.files.proofs.reading.read_on.Reads as reads
-use Rattle.files.proofs.reading.read_on.Lts as lts
-use Rattle.files.proofs.reading.read_some.Reads as read-some-reads
 
 abbrev Inv-loop : tie.InvT-loop
 Inv-loop fd text₀ at₀ text at = (at ≤ length text) × (length text ≡ length text₀)
@@ -15,67 +13,51 @@ Inv-loop fd text₀ at₀ text at = (at ≤ length text) × (length text ≡ len
 abbrev μ-loop : tie.MeasureT-loop
 μ-loop fd text₀ at₀ text at = length text₀ - at
 
--- src/reading.rt:27:5
 loop-holds : tie.Need-loop-holds Inv-loop μ-loop
 loop-holds c = search needs
 
--- src/reading.rt:28:34
 sub-read-some : tie.Need-sub-read-some Inv-loop μ-loop
 sub-read-some c = search needs
 
--- src/reading.rt:28:34
 part-read-some-start : tie.Need-part-read-some-start Inv-loop μ-loop
 part-read-some-start c = search needs
 
--- src/reading.rt:28:34
 part-read-some-end : tie.Need-part-read-some-end Inv-loop μ-loop
 part-read-some-end c = search needs
 
--- src/reading.rt:28:13
 read-some-requires : tie.Need-read-some-requires Inv-loop μ-loop
 read-some-requires c κs = search needs
 
--- src/reading.rt:29:25
 enum-known-some : tie.Need-enum-known-some Inv-loop μ-loop
 enum-known-some c = search needs
 
--- src/reading.rt:30:13
 enum-told : tie.Need-enum-told Inv-loop μ-loop
 enum-told c = search needs
 
--- src/reading.rt:30:13
 same-length : tie.Need-same-length Inv-loop μ-loop
 same-length c = search needs
 
--- src/reading.rt:30:13
 returns : tie.Need-returns Inv-loop μ-loop
 returns c = search needs
 
--- src/reading.rt:33:13
 same-length-2 : tie.Need-same-length-2 Inv-loop μ-loop
 same-length-2 c = search needs
 
--- src/reading.rt:33:13
 returns-2 : tie.Need-returns-2 Inv-loop μ-loop
 returns-2 c = search needs
 
--- src/reading.rt:35:9
 add-at : tie.Need-add-at Inv-loop μ-loop
 add-at c = let e = rw (c .before .before .some .given .1) at (c .before .before .before .before .before .before .read-some .ensures) in omega arith
 
--- src/reading.rt:27:5
 loop-less : tie.Need-loop-less Inv-loop μ-loop
 loop-less c = search needs
 
--- src/reading.rt:27:5
 loop-again : tie.Need-loop-again Inv-loop μ-loop
 loop-again c = let e = rw (c .before .before .some .given .1) at (c .before .before .before .before .before .before .read-some .ensures) in (omega arith, omega arith)
 
--- src/reading.rt:23:1
 same-length-3 : tie.Need-same-length-3 Inv-loop μ-loop
 same-length-3 c = search needs
 
--- src/reading.rt:23:1
 returns-3 : tie.Need-returns-3 Inv-loop μ-loop
 returns-3 c = search needs
 
