@@ -63,7 +63,7 @@ fn list_with_places(
     let mut x = [0i32; 512];
     let mut y = [0i32; 512];
     let reply = dimacs::read_co(&text[0..k], n, &mut x, &mut y);
-    let CoReply::Unlocated(r) = reply else {
+    let CoReply::Refused(r) = reply else {
         return list_boxes(page, n, m, tails, heads, weights, &x, &y);
     };
     put_place(page, 0, r)

@@ -78,10 +78,10 @@ pub fn read_places(
     };
     let reply = dimacs::read_co(&text[0..k], n, x, y);
     match reply {
-        CoReply::Located => {
+        CoReply::Read => {
             return put_ok(page);
         }
-        CoReply::Unlocated(r) => {
+        CoReply::Refused(r) => {
             return put_refusal(page, r);
         }
     }
