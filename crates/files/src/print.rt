@@ -1,7 +1,7 @@
 // Writing to standard output.
 ghost use Prim.Native.Nat.{_≤_};
 use crate::page::PAGE;
-use crate::page::put_number;
+use crate::page::size;
 use crate::refusals::put_place;
 use libc::STDOUT_FILENO;
 use rules::Judged;
@@ -19,10 +19,15 @@ pub fn text(bytes: &[u8]) {
     io::write_all(STDOUT_FILENO, bytes);
 }
 
+pub fn count(n: u32) {
+    io::print_decimal(STDOUT_FILENO, n as u64);
+}
+
 pub fn number(z: i32) {
-    let mut page = [0u8; PAGE];
-    let end = put_number(&mut page, 0, z);
-    out(&page, end);
+    if z < 0 {
+        text(b"-");
+    }
+    io::print_decimal(STDOUT_FILENO, size(z));
 }
 
 // `refused`, the paper's number, and the place or 0.
