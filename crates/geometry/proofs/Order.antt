@@ -1,8 +1,7 @@
 -- The order on ℤ, where `lib.Signed` stops: it is transitive, antisymmetric and total, and `smaller` and `larger` are its meet and join. Assumes nothing.
-use mathlib.Core.Path.{_≡_, refl, ap, sym, subst}
-use mathlib.Core.Logic.{_⊎_, inl, inr}
+use mathlib.Core.Path.{_≡_, ap}
 use mathlib.Core.Bool.{Bool, true, false, not, cond}
-use Prim.Native.Nat.{ℕ, _≤_, _<_}
+use Prim.Native.Nat.{_≤_}
 use native.Mathlib.Nat.{le-trans, le-antisymm, le-of-lt}
 use lib.Dec.{T, leb, leb→le, le→leb, nleb→lt}
 use lib.IntN.{ℤ, pos, negsuc}

@@ -3,7 +3,7 @@ use mathlib.Core.Path.{_≡_, refl}
 use mathlib.Core.Logic.{_⊎_, inl, inr, ⊎-elim}
 use lib.IntN.{ℤ}
 use lib.Signed.{_≤ℤ_, ≤ℤ-refl}
-use Rattle.geometry.specs.Box.{Box, Holds, Within, Upright, WellShaped, Encloses, Smallest}
+use Rattle.geometry.specs.Box.{Box, Holds, Upright, Encloses, Smallest}
 use Rattle.geometry.specs.Hull.{placeBox, hull, grown}
 use Rattle.geometry.proofs.Order.{≤ℤ-trans, ≤ℤ-antisymm, smaller-left, smaller-right, larger-left, larger-right, smaller-both, larger-both}
 
@@ -109,16 +109,6 @@ hull-upright {b} c p =
     record {
       across = ≤ℤ-trans (smaller-left (b .left) (c .left)) (≤ℤ-trans (p .across) (larger-left (b .right) (c .right)));
       upward = ≤ℤ-trans (smaller-left (b .low) (c .low)) (≤ℤ-trans (p .upward) (larger-left (b .high) (c .high)));
-    }
-
-pub hull-shaped : {b c : Box} → WellShaped b → WellShaped c → WellShaped (hull b c)
-hull-shaped {b} {c} p q =
-    record {
-      upright = hull-upright c (p .upright);
-      left-in = smaller-both Within (p .left-in) (q .left-in);
-      right-in = larger-both Within (p .right-in) (q .right-in);
-      low-in = smaller-both Within (p .low-in) (q .low-in);
-      high-in = larger-both Within (p .high-in) (q .high-in);
     }
 
 -- growing by a point is the hull with the point's box, by definition

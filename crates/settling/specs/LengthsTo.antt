@@ -1,10 +1,10 @@
 -- The lengths to t, and S(e), by the labels of a search from t in the reverse network. Assumes nothing.
 use Prim.Native.Nat.{ℕ, _+_, _<_, _≤_}
 use native.Mathlib.Omega.{arith}
-use mathlib.Core.Bool.{Bool, true, false, _&&_}
+use mathlib.Core.Bool.{Bool, true, _&&_}
 use mathlib.Core.Path.{_≡_, refl, sym, subst, _∙_}
 use lib.Dec.{ltb, eqb}
-use borrow.Author.Tests.{lt-ltb, le-ltb, ltb-true, eqb-true, eq-eqb}
+use borrow.Author.Tests.{lt-ltb, ltb-true, eqb-true, eq-eqb}
 use Rattle.walks.specs.Walk.{Net, reverse}
 use Rattle.walks.specs.WalkLaws.{backward, kept-all}
 use Rattle.walks.specs.Rows.{Rows, at, network, turned, turned-network, turned-sound, Sound}
@@ -12,7 +12,7 @@ use Rattle.walks.specs.Least.{Reached, Dist}
 use Rattle.walks.specs.LeastLaws.{best-dist, dist-turned, dist-sized, dist-unique}
 use Rattle.walks.specs.Through.{InS}
 use Rattle.settling.specs.declared.Labels.{Labels}
-use Rattle.settling.specs.Choice.{and-yes, and-no, and-true}
+use Rattle.settling.specs.Choice.{and-yes, and-true}
 use Rattle.settling.specs.Labels.{none, lengthOf, arcsOf}
 use Rattle.settling.specs.Run.{labelsOf}
 use Rattle.settling.specs.Right.{Label, best, absent, all-labels}
@@ -32,11 +32,7 @@ isInS R L e = onShortest (at (R .weights) e) (lengthOf L (at (R .heads) e)) (len
 -- ---- What a proof of the code cites
 
 module _ (w head tail : ℕ) where
-  pub shortest-none : none ≤ head → onShortest w head tail ≡ false
-  unfolding onShortest
-  shortest-none h = and-no _ (le-ltb head none h)
-
-  pub shortest-some : head < none → onShortest w head tail ≡ eqb (w + head) tail
+  shortest-some : head < none → onShortest w head tail ≡ eqb (w + head) tail
   unfolding onShortest
   shortest-some h = and-yes (lt-ltb head none h) refl
 

@@ -28,7 +28,3 @@ module _ {N : Net} {Keep : ℕ → ℕ → Type 0} where
   -- yes and refusal 13 exclude one another
   pub consistent-misses : {e t : ℕ} → Consistent N Keep → Misses N Keep e t → ⊥
   consistent-misses h m = m .refused (h .keeps _ _ (m .member))
-
-  -- where the test can be decided, what misses nothing is consistent
-  pub misses-none : ((e t : ℕ) → Dec (Keep e t)) → ((e t : ℕ) → ¬ Misses N Keep e t) → Consistent N Keep
-  misses-none either h = record { keeps = λ e t i. elim (either e t) [ yes k ↦ k | no k ↦ absurd (h e t (record { member = i; refused = k })) ] }
