@@ -1,14 +1,14 @@
 -- Laws of numbers as they are held, and of the limits of 32 bits. Assumes nothing.
-use mathlib.Core.Path.{_≡_, refl, sym, ap, _∙_}
+use mathlib.Core.Path.{_≡_, refl, sym}
 use mathlib.Core.List.{List, [], _∷_}
 use mathlib.Core.Bool.{Bool, true, false, cond, _&&_}
 use Prim.Native.Nat.{ℕ, zero, suc, _+_, _-_, _*_, _≤_, _<_, min}
 use native.Mathlib.Omega.{arith}
-use lib.IntN.{ℤ, pos, negsuc, negℤ, _-ℤ_, +ℤ-idl}
-use lib.Dec.{eqb, leb}
+use lib.IntN.{ℤ, pos, negℤ, _-ℤ_, +ℤ-idl}
+use lib.Dec.{leb}
 use lib.ListN.{getD, drop}
 use mir.Syntax.{w32, w64}
-use mir.Val.{SFits, toZ, ofZ}
+use mir.Val.{SFits, toZ}
 use mir.Facts.{toZ-pos}
 use borrow.Author.Tests.{eq-eqb, ne-eqb, le-leb, lt-leb}
 use Rattle.scan.specs.Numbers.{valueFrom, naturalOf, integerOf, plain, negated}
@@ -16,11 +16,8 @@ use Rattle.scan.specs.declared.numbers.Natural.{Natural}
 use Rattle.scan.specs.declared.numbers.Natural.the-variants.{Number, NoNumber}
 use Rattle.commands.specs.Numbers.{heldNumber, countOf, signedOf}
 use Rattle.commands.specs.declared.Fault.the-variants.{Misspelt, BeyondType}
-use Rattle.commands.specs.declared.numbers.Count.{Count}
 use Rattle.commands.specs.declared.numbers.Count.the-variants as count
-use Rattle.commands.specs.declared.numbers.Signed.{Signed}
 use Rattle.commands.specs.declared.numbers.Signed.the-variants as signed
-use Rattle.commands.specs.declared.numbers.Spelt.{Spelt}
 use Rattle.commands.specs.declared.numbers.Spelt.the-variants.{Held, Unspelt}
 
 -- ---- digits that go on from two numbers which are held alike are held alike

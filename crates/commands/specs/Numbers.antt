@@ -1,13 +1,12 @@
 -- Numbers of 32 bits: the spelling of `scan`, with the true values, and then the limits of the type. Assumes nothing: these are definitions.
-use Prim.Native.Nat.{ℕ, suc, min}
+use Prim.Native.Nat.{min}
 use mathlib.Core.Bool.{cond}
 use lib.Dec.{leb}
-use lib.IntN.{ℤ, pos, negsuc}
+use lib.IntN.{pos, negsuc}
 use Rattle.scan.specs.declared.numbers.Natural.{Natural}
 use Rattle.scan.specs.declared.numbers.Natural.the-variants.{Number, NoNumber}
 use Rattle.scan.specs.declared.numbers.Integer.{Integer}
 use Rattle.scan.specs.declared.numbers.Integer.the-variants.{Whole, NoWhole}
-use Rattle.commands.specs.declared.Fault.{Fault}
 use Rattle.commands.specs.declared.Fault.the-variants.{Misspelt, BeyondType}
 use Rattle.commands.specs.declared.numbers.Count.{Count}
 use Rattle.commands.specs.declared.numbers.Count.the-variants as count

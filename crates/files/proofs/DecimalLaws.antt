@@ -1,19 +1,16 @@
 -- The digits that io writes are the definition's. Assumes nothing.
-use Prim.Native.Nat.{ℕ, zero, suc, _+_, _-_, _*_, _/_, _%_, _^_, _≤_, _<_}
-use mathlib.Core.Path.{_≡_, refl, sym, ap, _∙_}
-use mathlib.Core.List.{List, [], _∷_, _++_}
+use Prim.Native.Nat.{ℕ, zero, suc, _-_, _*_, _/_, _%_, _^_, _≤_, _<_}
+use mathlib.Core.Path.{_≡_, refl}
+use mathlib.Core.List.{_∷_}
 use native.Mathlib.Omega.{arith}
 use native.Mathlib.Decide.{decLe}
-use native.Mathlib.Nat.{pow-le-pow-right, pow-suc, mod-eq-of-lt, mod-lt, one-le-pow, not-suc-le-zero}
-use lib.ListN.{length, take}
+use native.Mathlib.Nat.{pow-le-pow-right, pow-suc, mod-eq-of-lt, one-le-pow, not-suc-le-zero}
 use lib.IntN.{ℤ, pos, negsuc, natAbs}
 use lib.Signed.{ltZ}
-use mathlib.Core.Bool.{Bool, true, false}
+use mathlib.Core.Bool.{true, false}
 use borrow.Author.Tests.{lt-ltb, le-ltb, ltb-true}
 use Rattle.io.specs.Digits.{digits, Fewest}
 use Rattle.files.specs.Decimal.{spelt, decimal, whole}
-use Rattle.files.specs.Page.{Puts}
-use Rattle.files.proofs.PageLaws.{puts-both}
 
 pub digits-spelt : (k f n : ℕ) → k ≤ f → Fewest 10 1 n k → digits 10 k n ≡ spelt f n
 unfolding spelt

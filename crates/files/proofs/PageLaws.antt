@@ -1,12 +1,12 @@
 -- Laws of texts that are put on a page. Assumes nothing.
-use Prim.Native.Nat.{ℕ, zero, suc, _+_, _-_, _*_, _≤_, _<_}
-use mathlib.Core.Path.{_≡_, refl, sym, ap, subst, _∙_}
+use Prim.Native.Nat.{ℕ, suc, _+_, _-_, _≤_, _<_}
+use mathlib.Core.Path.{_≡_, refl, sym, subst, _∙_}
 use mathlib.Core.List.{List, [], _∷_, _++_, append-assoc, append-nil}
 use native.Mathlib.Omega.{arith}
-use native.Mathlib.Nat.{add-zero, le-of-lt}
+use native.Mathlib.Nat.{add-zero}
 use native.Mathlib.Numerals.{add-one}
-use lib.ListN.{length, take, drop, set, getD, length-set, length-append}
-use lib.Seq.{take-suc, take-suc-set, take-all, length-take-le, take-set-le}
+use lib.ListN.{length, take, set, getD, length-set, length-append}
+use lib.Seq.{take-suc, take-suc-set}
 use Rattle.files.specs.Page.{written, Puts}
 
 -- a text after a text

@@ -1,5 +1,5 @@
 -- An i32 in 64 bits, and its size. Assumes nothing.
-use Prim.Native.Nat.{zero, suc, _+_, _≤_, _<_, _^_}
+use Prim.Native.Nat.{zero, suc, _+_, _≤_}
 use mathlib.Core.Path.{_≡_, refl, sym, subst, _∙_}
 use mathlib.Core.Bool.{Bool, true, false, not}
 use native.Mathlib.Nat.{not-suc-le-zero}

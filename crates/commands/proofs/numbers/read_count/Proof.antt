@@ -1,5 +1,5 @@
 -- `commands::numbers::read_count` meets its contract. Assumes nothing.
-use mathlib.Core.Path.{_≡_, sym, ap, _∙_}
+use mathlib.Core.Path.{sym, _∙_}
 use Rattle.commands.proofs.NumberLaws.{count-none, count-high, count-is}
 use borrow.Author.Needs.{needs}
 use Rattle.commands.proofs.numbers.read_count.Statement.{statement}

@@ -1,9 +1,9 @@
 -- `commands::numbers::read_digits` meets its contract. Assumes nothing.
 use Rattle.commands.specs.declared.numbers.Spelt.the-variants.{Held}
-use Prim.Native.Nat.{ℕ, _≤_, _<_, _-_, _+_}
-use mathlib.Core.Path.{_≡_, refl, sym, _∙_, ap}
+use Prim.Native.Nat.{_≤_, _-_}
+use mathlib.Core.Path.{_≡_, _∙_, ap}
 use native.Mathlib.Omega.{arith}
-use lib.ListN.{length, getD, drop}
+use lib.ListN.{length, drop}
 use Rattle.scan.specs.Numbers.{valueFrom}
 use Rattle.commands.specs.Numbers.{heldNumber}
 use Rattle.scan.proofs.NumberLaws.{digits-low, digits-high, digits-more, digits-end}

@@ -1,5 +1,5 @@
 -- `commands::numbers::read_signed` meets its contract. Assumes nothing.
-use mathlib.Core.Path.{_≡_, sym, ap, _∙_}
+use mathlib.Core.Path.{sym, ap, _∙_}
 use mir.Facts.{toZ-ofZ}
 use borrow.Author.Needs.{sfits-of}
 use Rattle.scan.proofs.NumberLaws.{some-byte}

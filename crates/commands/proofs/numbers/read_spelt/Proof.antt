@@ -1,9 +1,7 @@
 -- `commands::numbers::read_spelt` meets its contract. Assumes nothing.
 use Rattle.commands.specs.Numbers.{heldNumber}
 use Rattle.scan.proofs.NumberLaws.{natural-none, natural-one, natural-padded, natural-more}
-use mathlib.Core.Path.{_≡_, sym, ap, _∙_}
-use native.Mathlib.Omega.{arith}
-use borrow.Author.Tests.{eq-eqb, ne-eqb, le-leb, lt-leb}
+use mathlib.Core.Path.{sym, ap, _∙_}
 use borrow.Author.Needs.{needs}
 use Rattle.commands.proofs.numbers.read_spelt.Statement.{statement}
 use Rattle.commands.proofs.numbers.read_spelt.Tie as tie

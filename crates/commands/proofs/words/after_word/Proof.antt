@@ -1,8 +1,8 @@
 -- `commands::words::after_word` meets its contract. Assumes nothing.
 use Prim.Native.Nat.{_≤_, _+_}
-use mathlib.Core.Path.{_≡_, _∙_, sym}
+use mathlib.Core.Path.{_∙_}
 use native.Mathlib.Omega.{arith}
-use lib.ListN.{length, drop, drop-of-length-le}
+use lib.ListN.{length, drop-of-length-le}
 use lib.Seq.{drop-length}
 use Rattle.scan.specs.Pieces.{firstAt}
 use borrow.Author.Needs.{needs}

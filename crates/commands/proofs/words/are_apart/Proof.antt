@@ -1,8 +1,6 @@
 -- `commands::words::are_apart` meets its contract. Assumes nothing.
-use Prim.Native.Nat.{ℕ, _≤_, _<_, _-_, _+_}
-use mathlib.Core.Path.{_≡_, refl, sym, _∙_, ap}
-use native.Mathlib.Omega.{arith}
-use lib.ListN.{length, getD, drop}
+use Prim.Native.Nat.{_≤_, _-_}
+use lib.ListN.{length}
 use borrow.Author.Needs.{needs}
 use Rattle.commands.proofs.words.are_apart.Statement.{statement}
 use Rattle.commands.proofs.words.are_apart.Tie as tie

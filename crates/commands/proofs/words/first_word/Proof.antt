@@ -1,7 +1,5 @@
 -- `commands::words::first_word` meets its contract. Assumes nothing.
-use Prim.Native.Nat.{ℕ, _≤_, _<_, _-_, _+_}
-use mathlib.Core.Path.{_≡_, refl, sym, _∙_, ap}
-use native.Mathlib.Omega.{arith}
+use Prim.Native.Nat.{_-_}
 use borrow.Author.Needs.{needs}
 use Rattle.commands.proofs.words.first_word.Statement.{statement}
 use Rattle.commands.proofs.words.first_word.Tie as tie

@@ -1,6 +1,6 @@
 -- `files::listing::put_listing` meets its contract. Assumes nothing.
-use Prim.Native.Nat.{ℕ, _≤_, _+_, _-_, _*_}
-use mathlib.Core.Path.{_≡_, _∙_, ap, sym, refl}
+use Prim.Native.Nat.{_≤_, _-_, _*_}
+use mathlib.Core.Path.{_≡_}
 use native.Mathlib.Omega.{arith}
 use Rattle.files.proofs.PageLaws.{puts-both, puts-none}
 use native.Mathlib.Numerals.{add-one}

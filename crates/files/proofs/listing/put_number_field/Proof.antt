@@ -1,14 +1,11 @@
 -- `files::listing::put_number_field` meets its contract. Assumes nothing.
-use Prim.Native.Nat.{ℕ, _≤_, _+_, _-_, _*_}
-use mathlib.Core.Path.{_≡_, _∙_, ap, sym, refl}
+use Prim.Native.Nat.{_-_}
+use mathlib.Core.Path.{ap}
 use native.Mathlib.Omega.{arith}
 use Rattle.files.proofs.PageLaws.{puts-both, puts-same}
-use lib.IntN.{ℤ}
 use mir.Syntax.{w32}
 use mir.Facts.{toZ-ofZ}
-use borrow.Author.Needs.{sfits-of}
 use Rattle.files.specs.Decimal.{whole}
-use Rattle.files.specs.Listing.{wholeField}
 use borrow.Author.Needs.{needs}
 use Rattle.files.proofs.listing.put_number_field.Statement.{statement}
 use Rattle.files.proofs.listing.put_number_field.Tie as tie

@@ -1,10 +1,9 @@
 -- `files::page::put` meets its contract. Assumes nothing.
 use Prim.Native.Nat.{_≤_, _+_, _-_}
-use mathlib.Core.Path.{_≡_, refl, sym, ap, _∙_}
 use native.Mathlib.Omega.{arith}
 use native.Mathlib.Nat.{add-zero}
 use lib.ListN.{length, take}
-use lib.Seq.{take-length, take-all}
+use lib.Seq.{take-all}
 use borrow.Author.Needs.{needs}
 use Rattle.files.specs.Page.{Puts}
 use Rattle.files.proofs.PageLaws.{puts-none, puts-more}

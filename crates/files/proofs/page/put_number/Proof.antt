@@ -1,6 +1,6 @@
 -- `files::page::put_number` meets its contract. Assumes nothing.
 use Prim.Native.Nat.{ℕ}
-use mathlib.Core.Path.{_∙_, ap, sym}
+use mathlib.Core.Path.{_∙_, ap}
 use mathlib.Core.List.{_∷_}
 use Rattle.files.specs.Decimal.{decimal}
 use native.Mathlib.Omega.{arith}

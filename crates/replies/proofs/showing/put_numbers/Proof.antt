@@ -1,8 +1,6 @@
 -- `replies::showing::put_numbers` meets its contract. Assumes nothing.
 use Prim.Native.Nat.{_≤_, _+_, _-_, _*_}
-use mathlib.Core.Path.{_≡_}
-use native.Mathlib.Omega.{arith}
-use lib.ListN.{length, length-set}
+use lib.ListN.{length}
 use borrow.Author.Needs.{needs}
 use Rattle.replies.proofs.showing.put_numbers.Statement.{statement}
 use Rattle.replies.proofs.showing.put_numbers.Tie as tie
