@@ -1,1 +1,4 @@
+pub mod Words
+pub mod Names
 pub mod Numbers
+pub mod Commands

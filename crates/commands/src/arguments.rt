@@ -1,4 +1,8 @@
 // What stands after a command's first word.
+ghost use mathlib.Core.Path.{_≡_};
+ghost use Rattle.commands.specs.Words.{wordsOf};
+ghost use Rattle.commands.specs.Commands.{pairIn, asked};
+ghost use Rattle.commands.specs.declared.verbs.Verb.the-variants.{Lend, Show};
 use crate::Call;
 use crate::Command;
 use crate::Fault;
@@ -12,6 +16,7 @@ use crate::verbs::RowName;
 use crate::verbs::Verb;
 use crate::verbs::row_of;
 use crate::words::after_word;
+use crate::words::count_words;
 use crate::words::first_word;
 
 // Two numbers, or the fault of the first that has one.
@@ -21,76 +26,90 @@ pub enum Pair {
 }
 
 // Two words that are numbers without sign.
-fn read_pair(words: &[u8]) -> Pair {
+fn read_pair(words: &[u8]) -> Pair
+    ensures { λ r. ⌜ r ≡ pairIn (wordsOf (now (words .entry))) ⌝ }
+{
     let a = read_count(first_word(words));
+    let b = read_count(first_word(after_word(words)));
     match a {
-        Count::Not(fault) => {
-            return Pair::Not(fault);
-        }
-        Count::Is(first) => {
-            let b = read_count(after_word(words));
-            match b {
-                Count::Not(fault) => {
-                    return Pair::Not(fault);
-                }
-                Count::Is(second) => {
-                    return Pair::Are(first, second);
-                }
-            }
-        }
+        Count::Not(fault) => Pair::Not(fault),
+        Count::Is(first) => match b {
+            Count::Not(fault) => Pair::Not(fault),
+            Count::Is(second) => Pair::Are(first, second),
+        },
     }
 }
 
-// `lend`: the row's name, then its values, of which there are so many.
-pub fn lend_of(words: &[u8], values: usize) -> Command {
+// `lend`: the row's name, then its values.
+fn lend_of(words: &[u8]) -> Command
+    ensures { λ r. ⌜ r ≡ asked Lend (wordsOf (now (words .entry))) ⌝ }
+{
     let name = row_of(first_word(words));
     let RowName::Known(row) = name else {
         return Command::Faulty(Fault::NoRow);
     };
-    if row.places() < values {
+    let values = after_word(words);
+    if row.places() < count_words(values) {
         return Command::Faulty(Fault::LongRow);
     }
-    let judged = judge_values(after_word(words), row.is_signed());
+    let judged = judge_values(values, row.is_signed());
     let Judged::Bad(fault) = judged else {
         return Command::Lend(row);
     };
     Command::Faulty(fault)
 }
 
-// `show`: the row's name, and a number where the command has three words.
-pub fn show_of(words: &[u8], count: usize) -> Command {
+// `show`: the row's name, and perhaps a count.
+fn show_of(words: &[u8]) -> Command
+    ensures { λ r. ⌜ r ≡ asked Show (wordsOf (now (words .entry))) ⌝ }
+{
     let name = row_of(first_word(words));
     let RowName::Known(row) = name else {
         return Command::Faulty(Fault::NoRow);
     };
-    if count == 2 {
+    let more = after_word(words);
+    if more.len() == 0 {
         return Command::Other(Request::Show(row, Shown::All));
     }
-    match read_count(after_word(words)) {
+    match read_count(first_word(more)) {
         Count::Is(k) => Command::Other(Request::Show(row, Shown::First(k))),
         Count::Not(fault) => Command::Faulty(fault),
     }
 }
 
-// A command with one number.
-pub fn number_of(verb: Verb, words: &[u8]) -> Command {
-    match read_count(words) {
-        Count::Is(v) => match verb {
-            Verb::N => Command::Other(Request::SetN(v)),
-            _ => Command::Other(Request::SetM(v)),
+// The command of a line whose first word is `verb` and whose other words are `words`.
+pub fn ask(verb: Verb, words: &[u8]) -> Command
+    ensures { λ r. ⌜ r ≡ asked verb (wordsOf (now (words .entry))) ⌝ }
+{
+    match verb {
+        Verb::N => match read_count(first_word(words)) {
+            Count::Is(n) => Command::Other(Request::SetN(n)),
+            Count::Not(fault) => Command::Faulty(fault),
         },
-        Count::Not(fault) => Command::Faulty(fault),
-    }
-}
-
-// A command with two numbers.
-pub fn pair_of(verb: Verb, words: &[u8]) -> Command {
-    match read_pair(words) {
-        Pair::Are(a, b) => match verb {
-            Verb::Update => Command::Other(Request::Call(Call::Update(a, b))),
-            Verb::Search => Command::Other(Request::Call(Call::Search(a, b))),
-            _ => Command::Other(Request::Call(Call::Boxed(a, b))),
+        Verb::M => match read_count(first_word(words)) {
+            Count::Is(m) => Command::Other(Request::SetM(m)),
+            Count::Not(fault) => Command::Faulty(fault),
         },
-        Pair::Not(fault) => Command::Faulty(fault),
+        Verb::Lend => lend_of(words),
+        Verb::Show => show_of(words),
+        Verb::Gr => Command::Other(Request::ReadGr),
+        Verb::Co => Command::Other(Request::ReadCo),
+        Verb::Build => Command::Other(Request::Call(Call::Build)),
+        Verb::Check => Command::Other(Request::Call(Call::Check)),
+        Verb::Update => match read_pair(words) {
+            Pair::Are(arc, weight) => Command::Other(Request::Call(Call::Update(arc, weight))),
+            Pair::Not(fault) => Command::Faulty(fault),
+        },
+        Verb::Search => match read_pair(words) {
+            Pair::Are(s, t) => Command::Other(Request::Call(Call::Search(s, t))),
+            Pair::Not(fault) => Command::Faulty(fault),
+        },
+        Verb::Boxed => match read_pair(words) {
+            Pair::Are(s, t) => Command::Other(Request::Call(Call::Boxed(s, t))),
+            Pair::Not(fault) => Command::Faulty(fault),
+        },
+        Verb::Fresh => Command::Fresh,
+        Verb::Help => Command::Other(Request::Help),
+        Verb::NoVerb => Command::Faulty(Fault::NoCommand),
     }
 }

@@ -1,4 +1,7 @@
 // Judging a line before anything is done.
+ghost use mathlib.Core.Path.{_≡_};
+ghost use Rattle.commands.specs.Words.{wordsOf};
+ghost use Rattle.commands.specs.Commands.{lineJudged, valueJudged, valuesJudged};
 use crate::Fault;
 use crate::numbers::Count;
 use crate::numbers::Signed;
@@ -16,22 +19,26 @@ pub enum Judged {
     Bad(Fault),
 }
 
-// Faults 2, 3 and 4: those of a line's bytes, before its words are looked at.
-pub fn judge_line(line: &[u8]) -> Judged {
+// The faults of a line's bytes, before its words are looked at.
+pub fn judge_line(line: &[u8]) -> Judged
+    ensures { λ r. ⌜ r ≡ lineJudged (now (line .entry)) ⌝ }
+{
     if line.len() == 0 {
         return Judged::Bad(Fault::EmptyLine);
     }
-    if holds_byte(line, 13) | holds_byte(line, 9) {
+    if holds_byte(line, b'\r') | holds_byte(line, b'\t') {
         return Judged::Bad(Fault::ControlByte);
     }
-    if !are_apart(line) {
-        return Judged::Bad(Fault::EmptyWord);
+    if are_apart(line) {
+        return Judged::Good;
     }
-    Judged::Good
+    Judged::Bad(Fault::EmptyWord)
 }
 
-// Faults 9 and 10 of one word where a row's number is to stand.
-fn judge_value(word: &[u8], is_signed: bool) -> Judged {
+// One word where a row's number is to stand.
+fn judge_value(word: &[u8], is_signed: bool) -> Judged
+    ensures { λ r. ⌜ r ≡ valueJudged is-signed (now (word .entry)) ⌝ }
+{
     if is_signed {
         let z = read_signed(word);
         let Signed::Not(fault) = z else {
@@ -46,12 +53,14 @@ fn judge_value(word: &[u8], is_signed: bool) -> Judged {
     Judged::Bad(fault)
 }
 
-// Faults 9 and 10 of all the words, the first from the left.
-pub fn judge_values(words: &[u8], is_signed: bool) -> Judged {
+// All the words where a row's numbers are to stand, from the left.
+pub fn judge_values(words: &[u8], is_signed: bool) -> Judged
+    ensures { λ r. ⌜ r ≡ valuesJudged is-signed (wordsOf (now (words .entry))) ⌝ }
+{
     let mut at = 0;
     while at < words.len() {
         let left = rest(words, at);
-        let e = first_at(left, 32);
+        let e = first_at(left, b' ');
         let judged = judge_value(front(left, e), is_signed);
         let Judged::Good = judged else {
             return judged;

@@ -5,14 +5,12 @@ pub mod numbers;
 pub mod verbs;
 pub mod words;
 
-use crate::arguments::lend_of;
-use crate::arguments::number_of;
-use crate::arguments::pair_of;
-use crate::arguments::show_of;
+ghost use mathlib.Core.Path.{_≡_};
+ghost use Rattle.commands.specs.Commands.{commandOf};
+use crate::arguments::ask;
 use crate::faults::Judged;
 use crate::faults::judge_line;
 use crate::verbs::Row;
-use crate::verbs::Verb;
 use crate::verbs::takes;
 use crate::verbs::verb_of;
 use crate::words::after_word;
@@ -68,44 +66,17 @@ pub enum Command {
     Other(Request),
 }
 
-// The command of a line of `count` words, its first word being `verb` and the others `words`.
-fn ask(verb: Verb, words: &[u8], count: usize) -> Command {
-    match verb {
-        Verb::N | Verb::M => number_of(verb, words),
-        Verb::Lend => {
-            if count < 2 {
-                return Command::Faulty(Fault::WordCount);
-            }
-            lend_of(words, count - 2)
-        }
-        Verb::Show => show_of(words, count),
-        Verb::Gr => Command::Other(Request::ReadGr),
-        Verb::Co => Command::Other(Request::ReadCo),
-        Verb::Build => Command::Other(Request::Call(Call::Build)),
-        Verb::Check => Command::Other(Request::Call(Call::Check)),
-        Verb::Update | Verb::Search | Verb::Boxed => pair_of(verb, words),
-        Verb::Fresh => Command::Fresh,
-        Verb::Help => Command::Other(Request::Help),
-        Verb::NoVerb => Command::Faulty(Fault::NoCommand),
-    }
-}
-
 // What a line asks for: it is judged whole, and nothing is stored yet.
-pub fn command_of(line: &[u8]) -> Command {
+pub fn command_of(line: &[u8]) -> Command
+    ensures { λ r. ⌜ r ≡ commandOf (now (line .entry)) ⌝ }
+{
     let judged = judge_line(line);
-    match judged {
-        Judged::Bad(fault) => {
-            return Command::Faulty(fault);
+    let Judged::Bad(fault) = judged else {
+        let verb = verb_of(first_word(line));
+        if takes(verb, count_words(line)) {
+            return ask(verb, after_word(line));
         }
-        Judged::Good => {}
-    }
-    let verb = verb_of(first_word(line));
-    if let Verb::NoVerb = verb {
-        return Command::Faulty(Fault::NoCommand);
-    }
-    let count = count_words(line);
-    if !takes(verb, count) {
         return Command::Faulty(Fault::WordCount);
-    }
-    ask(verb, after_word(line), count)
+    };
+    Command::Faulty(fault)
 }

@@ -1,4 +1,9 @@
 // The names of commands and of rows.
+ghost use mathlib.Core.Path.{_≡_};
+ghost use mathlib.Core.Bool.{cond};
+ghost use Rattle.scan.specs.Pieces.{sameBytes};
+ghost use Rattle.commands.specs.Names.{verbOf, takesWords, rowOf, placesOf, signedRow};
+ghost use Rattle.commands.specs.declared.verbs.RowName.the-variants.{Known};
 use scan::pieces::same_bytes;
 
 // The commands by their first words.
@@ -37,7 +42,9 @@ pub enum RowName {
 
 impl Row {
     // How many places the console has for a row.
-    pub fn places(self) -> usize {
+    pub fn places(self) -> usize
+        ensures { λ r. ⌜ r ≡ placesOf self ⌝ }
+    {
         match self {
             Row::X | Row::Y | Row::Route => 1024,
             Row::Boxes => 16384,
@@ -46,7 +53,9 @@ impl Row {
     }
 
     // Whether its numbers may be negative.
-    pub fn is_signed(self) -> bool {
+    pub fn is_signed(self) -> bool
+        ensures { λ r. ⌜ r ≡ signedRow self ⌝ }
+    {
         match self {
             Row::X | Row::Y | Row::Boxes => true,
             _ => false,
@@ -54,82 +63,70 @@ impl Row {
     }
 }
 
-pub fn verb_of(word: &[u8]) -> Verb {
-    if same_bytes(word, b"n") {
-        return Verb::N;
+// The verb where the word is its name, or else the other.
+fn named(word: &[u8], name: &[u8], verb: Verb, other: Verb) -> Verb
+    ensures { λ r. ⌜ r ≡ cond (sameBytes (now (word .entry)) (now (name .entry))) verb other ⌝ }
+{
+    if same_bytes(word, name) {
+        return verb;
     }
-    if same_bytes(word, b"m") {
-        return Verb::M;
-    }
-    if same_bytes(word, b"lend") {
-        return Verb::Lend;
-    }
-    if same_bytes(word, b"show") {
-        return Verb::Show;
-    }
-    if same_bytes(word, b"gr") {
-        return Verb::Gr;
-    }
-    if same_bytes(word, b"co") {
-        return Verb::Co;
-    }
-    if same_bytes(word, b"build") {
-        return Verb::Build;
-    }
-    if same_bytes(word, b"check") {
-        return Verb::Check;
-    }
-    if same_bytes(word, b"update") {
-        return Verb::Update;
-    }
-    if same_bytes(word, b"search") {
-        return Verb::Search;
-    }
-    if same_bytes(word, b"boxed") {
-        return Verb::Boxed;
-    }
-    if same_bytes(word, b"fresh") {
-        return Verb::Fresh;
-    }
-    if same_bytes(word, b"help") {
-        return Verb::Help;
-    }
-    Verb::NoVerb
+    other
+}
+
+// The command that a line's first word names.
+pub fn verb_of(word: &[u8]) -> Verb
+    ensures { λ r. ⌜ r ≡ verbOf (now (word .entry)) ⌝ }
+{
+    let mut verb = Verb::NoVerb;
+    verb = named(word, b"help", Verb::Help, verb);
+    verb = named(word, b"fresh", Verb::Fresh, verb);
+    verb = named(word, b"boxed", Verb::Boxed, verb);
+    verb = named(word, b"search", Verb::Search, verb);
+    verb = named(word, b"update", Verb::Update, verb);
+    verb = named(word, b"check", Verb::Check, verb);
+    verb = named(word, b"build", Verb::Build, verb);
+    verb = named(word, b"co", Verb::Co, verb);
+    verb = named(word, b"gr", Verb::Gr, verb);
+    verb = named(word, b"show", Verb::Show, verb);
+    verb = named(word, b"lend", Verb::Lend, verb);
+    verb = named(word, b"m", Verb::M, verb);
+    named(word, b"n", Verb::N, verb)
 }
 
 // Whether a line with this command may have so many words, the command included.
-pub fn takes(verb: Verb, words: usize) -> bool {
+pub fn takes(verb: Verb, words: usize) -> bool
+    ensures { λ r. ⌜ r ≡ takesWords verb words ⌝ }
+{
     match verb {
         Verb::N | Verb::M | Verb::Gr | Verb::Co => words == 2,
         Verb::Build | Verb::Check | Verb::Fresh | Verb::Help => words == 1,
         Verb::Update | Verb::Search | Verb::Boxed => words == 3,
         Verb::Show => (words == 2) | (words == 3),
         Verb::Lend => 2 <= words,
-        Verb::NoVerb => false,
+        Verb::NoVerb => true,
     }
 }
 
-pub fn row_of(word: &[u8]) -> RowName {
-    if same_bytes(word, b"tails") {
-        return RowName::Known(Row::Tails);
+// The row where the word is its name, or else the other.
+fn row_named(word: &[u8], name: &[u8], row: Row, other: RowName) -> RowName
+    ensures { λ r. ⌜ r ≡ cond (sameBytes (now (word .entry)) (now (name .entry))) (Known row) other ⌝ }
+{
+    if same_bytes(word, name) {
+        return RowName::Known(row);
     }
-    if same_bytes(word, b"heads") {
-        return RowName::Known(Row::Heads);
-    }
-    if same_bytes(word, b"weights") {
-        return RowName::Known(Row::Weights);
-    }
-    if same_bytes(word, b"x") {
-        return RowName::Known(Row::X);
-    }
-    if same_bytes(word, b"y") {
-        return RowName::Known(Row::Y);
-    }
-    if same_bytes(word, b"boxes") {
-        return RowName::Known(Row::Boxes);
-    }
-    if same_bytes(word, b"route") {
-        return RowName::Known(Row::Route);
-    }
-    RowName::Unknown
+    other
+}
+
+// The row that a word names.
+pub fn row_of(word: &[u8]) -> RowName
+    ensures { λ r. ⌜ r ≡ rowOf (now (word .entry)) ⌝ }
+{
+    let mut row = RowName::Unknown;
+    row = row_named(word, b"route", Row::Route, row);
+    row = row_named(word, b"boxes", Row::Boxes, row);
+    row = row_named(word, b"y", Row::Y, row);
+    row = row_named(word, b"x", Row::X, row);
+    row = row_named(word, b"weights", Row::Weights, row);
+    row = row_named(word, b"heads", Row::Heads, row);
+    row_named(word, b"tails", Row::Tails, row)
 }

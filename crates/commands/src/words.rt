@@ -1,8 +1,8 @@
 // The words of a line.
 ghost use mathlib.Core.Path.{_≡_};
-ghost use Prim.Native.Nat.{_+_, _≤_};
-ghost use lib.ListN.{length, drop};
-ghost use Rattle.scan.specs.Pieces.{firstAt, firstField};
+ghost use lib.ListN.{length};
+ghost use Rattle.scan.specs.Pieces.{firstField, fieldsOf};
+ghost use Rattle.commands.specs.Words.{wordsOf, afterWord, holdsByte, noneEmpty};
 use scan::pieces::first_at;
 use scan::pieces::front;
 use scan::pieces::rest;
@@ -11,30 +11,35 @@ use scan::pieces::rest;
 pub fn first_word(s: &[u8]) -> &[u8]
     ensures { λ r. ⌜ now r ≡ firstField (now (s .entry)) ⌝ }
 {
-    front(s, first_at(s, 32))
+    front(s, first_at(s, b' '))
 }
 
 // What stands after the first space, or nothing.
 pub fn after_word(s: &[u8]) -> &[u8]
-    ensures { λ r. ⌜ now r ≡ drop (firstAt 32 (now (s .entry)) + 1) (now (s .entry)) ⌝ }
+    ensures { λ r. ⌜ now r ≡ afterWord (now (s .entry)) ⌝ }
 {
-    let e = first_at(s, 32);
+    let e = first_at(s, b' ');
     if e < s.len() {
         return rest(s, e + 1);
     }
     rest(s, s.len())
 }
 
-pub fn holds_byte(s: &[u8], b: u8) -> bool {
+// Whether a byte stands in s.
+pub fn holds_byte(s: &[u8], b: u8) -> bool
+    ensures { λ r. ⌜ r ≡ holdsByte b (now (s .entry)) ⌝ }
+{
     first_at(s, b) < s.len()
 }
 
 // Whether single spaces divide the words, with none before or after.
-pub fn are_apart(s: &[u8]) -> bool {
+pub fn are_apart(s: &[u8]) -> bool
+    ensures { λ r. ⌜ r ≡ noneEmpty (fieldsOf (now (s .entry))) ⌝ }
+{
     let mut was_space = true;
     let mut i = 0;
     while i < s.len() {
-        let is_space = s[i] == 32;
+        let is_space = s[i] == b' ';
         if was_space & is_space {
             return false;
         }
@@ -44,17 +49,16 @@ pub fn are_apart(s: &[u8]) -> bool {
     !was_space
 }
 
-// One more than the spaces.
+// How many words there are.
 pub fn count_words(s: &[u8]) -> usize
-    ensures { λ r. ⌜ r ≤ length (now (s .entry)) + 1 ⌝ }
+    ensures { λ r. ⌜ r ≡ length (wordsOf (now (s .entry))) ⌝ }
 {
-    let mut n = 1;
-    let mut i = 0;
-    while i < s.len() {
-        if s[i] == 32 {
-            n += 1;
-        }
-        i += 1;
+    let mut n = 0;
+    let mut at = 0;
+    while at < s.len() {
+        let e = first_at(rest(s, at), b' ');
+        n += 1;
+        at = at + e + 1;
     }
     n
 }

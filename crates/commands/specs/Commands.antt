@@ -1,0 +1,127 @@
+-- What a line of the console asks for, or its first fault. Assumes nothing: these are definitions.
+use Prim.Native.Nat.{ℕ}
+use Prim.Native.Char.{code}
+use mathlib.Core.List.{List, [], _∷_}
+use mathlib.Core.Bool.{Bool, cond, _||_}
+use lib.Dec.{eqb, leb}
+use lib.ListN.{length, drop}
+use Rattle.scan.specs.Pieces.{fieldsOf}
+use Rattle.scan.specs.Numbers.{naturalOf, integerOf}
+use Rattle.commands.specs.Words.{wordsOf, word, holdsByte, noneEmpty}
+use Rattle.commands.specs.Names.{verbOf, takesWords, rowOf, placesOf, signedRow}
+use Rattle.commands.specs.Numbers.{countOf, signedOf}
+use Rattle.commands.specs.declared.Fault.the-variants.{EmptyLine, ControlByte, EmptyWord, NoCommand, WordCount, NoRow, LongRow}
+use Rattle.commands.specs.declared.Call.the-variants as call
+use Rattle.commands.specs.declared.Shown.the-variants.{All, First}
+use Rattle.commands.specs.declared.Request.{Request}
+use Rattle.commands.specs.declared.Request.the-variants as request
+use Rattle.commands.specs.declared.Command.{Command}
+use Rattle.commands.specs.declared.Command.the-variants.{Faulty, Lend, Fresh, Other}
+use Rattle.commands.specs.declared.arguments.Pair.{Pair}
+use Rattle.commands.specs.declared.arguments.Pair.the-variants as pair
+use Rattle.commands.specs.declared.faults.Judged.{Judged}
+use Rattle.commands.specs.declared.faults.Judged.the-variants.{Good, Bad}
+use Rattle.commands.specs.declared.numbers.Count.{Count}
+use Rattle.commands.specs.declared.numbers.Count.the-variants as count
+use Rattle.commands.specs.declared.numbers.Signed.{Signed}
+use Rattle.commands.specs.declared.numbers.Signed.the-variants as signed
+use Rattle.commands.specs.declared.verbs.Verb.{Verb}
+use Rattle.commands.specs.declared.verbs.Verb.the-variants as verb
+use Rattle.commands.specs.declared.verbs.Row.{Row}
+use Rattle.commands.specs.declared.verbs.RowName.{RowName}
+use Rattle.commands.specs.declared.verbs.RowName.the-variants.{Known, Unknown}
+
+-- ---- faults of a line's bytes
+
+unfoldable pub lineJudged : List ℕ → Judged
+lineJudged line =
+    cond (eqb (length line) 0) (Bad EmptyLine)
+    (cond (holdsByte (code "\r") line || holdsByte (code "\t") line) (Bad ControlByte)
+    (cond (noneEmpty (fieldsOf line)) Good (Bad EmptyWord)))
+
+-- ---- numbers
+
+-- a word as a number without sign
+abbrev pub number : List ℕ → Count
+number word = countOf (naturalOf word)
+
+-- two words as numbers; the first that is none decides
+unfoldable pub pairOf : Count → Count → Pair
+pairOf (count.Is a) (count.Is b) = pair.Are a b
+pairOf (count.Is a) (count.Not fault) = pair.Not fault
+pairOf (count.Not fault) b = pair.Not fault
+
+abbrev pub pairIn : List (List ℕ) → Pair
+pairIn words = pairOf (number (word 0 words)) (number (word 1 words))
+
+unfoldable pub countJudged : Count → Judged
+countJudged (count.Is v) = Good
+countJudged (count.Not fault) = Bad fault
+
+unfoldable pub signedJudged : Signed → Judged
+signedJudged (signed.Is z) = Good
+signedJudged (signed.Not fault) = Bad fault
+
+-- a word where a row's number is to stand
+unfoldable pub valueJudged : Bool → List ℕ → Judged
+valueJudged isSigned word = cond isSigned (signedJudged (signedOf (integerOf word))) (countJudged (number word))
+
+unfoldable pub onGood : Judged → Judged → Judged
+onGood Good more = more
+onGood (Bad fault) more = Bad fault
+
+-- all the values of a row; the first that is wrong decides
+unfoldable pub valuesJudged : Bool → List (List ℕ) → Judged
+valuesJudged isSigned [] = Good
+valuesJudged isSigned (w ∷ ws) = onGood (valueJudged isSigned w) (valuesJudged isSigned ws)
+
+-- ---- a command with what stands after its first word
+
+unfoldable pub withNumber : Count → (ℕ → Command) → Command
+withNumber (count.Is v) go = go v
+withNumber (count.Not fault) go = Faulty fault
+
+unfoldable pub withPair : Pair → (ℕ → ℕ → Command) → Command
+withPair (pair.Are a b) go = go a b
+withPair (pair.Not fault) go = Faulty fault
+
+unfoldable pub withRow : RowName → (Row → Command) → Command
+withRow (Known row) go = go row
+withRow Unknown go = Faulty NoRow
+
+unfoldable pub onceGood : Judged → Command → Command
+onceGood Good command = command
+onceGood (Bad fault) command = Faulty fault
+
+-- `lend` with a row's values: their count is judged before any of them
+unfoldable pub lendAsked : List (List ℕ) → Row → Command
+lendAsked values row = cond (leb (length values) (placesOf row)) (onceGood (valuesJudged (signedRow row) values) (Lend row)) (Faulty LongRow)
+
+-- `show` with a count or without
+unfoldable pub showAsked : List (List ℕ) → Row → Command
+showAsked [] row = Other (request.Show row All)
+showAsked (k ∷ more) row = withNumber (number k) (λ v. Other (request.Show row (First v)))
+
+unfoldable pub asked : Verb → List (List ℕ) → Command
+asked verb.N words = withNumber (number (word 0 words)) (λ v. Other (request.SetN v))
+asked verb.M words = withNumber (number (word 0 words)) (λ v. Other (request.SetM v))
+asked verb.Lend words = withRow (rowOf (word 0 words)) (lendAsked (drop 1 words))
+asked verb.Show words = withRow (rowOf (word 0 words)) (showAsked (drop 1 words))
+asked verb.Gr words = Other request.ReadGr
+asked verb.Co words = Other request.ReadCo
+asked verb.Build words = Other (request.Call call.Build)
+asked verb.Check words = Other (request.Call call.Check)
+asked verb.Update words = withPair (pairIn words) (λ arc weight. Other (request.Call (call.Update arc weight)))
+asked verb.Search words = withPair (pairIn words) (λ s t. Other (request.Call (call.Search s t)))
+asked verb.Boxed words = withPair (pairIn words) (λ s t. Other (request.Call (call.Boxed s t)))
+asked verb.Fresh words = Fresh
+asked verb.Help words = Other request.Help
+asked verb.NoVerb words = Faulty NoCommand
+
+-- ---- a line
+
+unfoldable pub commandOf : List ℕ → Command
+commandOf line =
+    let words = wordsOf line in
+    let verb = verbOf (word 0 words) in
+    onceGood (lineJudged line) (cond (takesWords verb (length words)) (asked verb (drop 1 words)) (Faulty WordCount))

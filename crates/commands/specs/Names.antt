@@ -1,0 +1,84 @@
+-- The names of commands and of rows. Assumes nothing: these are definitions.
+use Prim.Native.Nat.{ℕ}
+use Prim.Native.String.{String}
+use mathlib.Core.List.{List}
+use mathlib.Core.Bool.{Bool, true, false, cond, _||_}
+use lib.Dec.{eqb, leb}
+use Rattle.scan.specs.Ascii.{bytes}
+use Rattle.scan.specs.Pieces.{sameBytes}
+use Rattle.commands.specs.declared.verbs.Verb.{Verb}
+use Rattle.commands.specs.declared.verbs.Verb.the-variants as verb
+use Rattle.commands.specs.declared.verbs.Row.{Row}
+use Rattle.commands.specs.declared.verbs.Row.the-variants as row
+use Rattle.commands.specs.declared.verbs.RowName.{RowName}
+use Rattle.commands.specs.declared.verbs.RowName.the-variants.{Known, Unknown}
+
+abbrev pub _is_ : List ℕ → String → Bool
+word is name = sameBytes word (bytes name)
+
+-- the command that a line's first word names
+unfoldable pub verbOf : List ℕ → Verb
+verbOf word =
+    cond (word is "n") verb.N
+    (cond (word is "m") verb.M
+    (cond (word is "lend") verb.Lend
+    (cond (word is "show") verb.Show
+    (cond (word is "gr") verb.Gr
+    (cond (word is "co") verb.Co
+    (cond (word is "build") verb.Build
+    (cond (word is "check") verb.Check
+    (cond (word is "update") verb.Update
+    (cond (word is "search") verb.Search
+    (cond (word is "boxed") verb.Boxed
+    (cond (word is "fresh") verb.Fresh
+    (cond (word is "help") verb.Help
+    verb.NoVerb))))))))))))
+
+-- whether a line may have so many words, the command included; what is no command is told as such, whatever follows
+unfoldable pub takesWords : Verb → ℕ → Bool
+takesWords verb.N words = eqb words 2
+takesWords verb.M words = eqb words 2
+takesWords verb.Lend words = leb 2 words
+takesWords verb.Show words = eqb words 2 || eqb words 3
+takesWords verb.Gr words = eqb words 2
+takesWords verb.Co words = eqb words 2
+takesWords verb.Build words = eqb words 1
+takesWords verb.Check words = eqb words 1
+takesWords verb.Update words = eqb words 3
+takesWords verb.Search words = eqb words 3
+takesWords verb.Boxed words = eqb words 3
+takesWords verb.Fresh words = eqb words 1
+takesWords verb.Help words = eqb words 1
+takesWords verb.NoVerb words = true
+
+-- the row that a word names
+unfoldable pub rowOf : List ℕ → RowName
+rowOf word =
+    cond (word is "tails") (Known row.Tails)
+    (cond (word is "heads") (Known row.Heads)
+    (cond (word is "weights") (Known row.Weights)
+    (cond (word is "x") (Known row.X)
+    (cond (word is "y") (Known row.Y)
+    (cond (word is "boxes") (Known row.Boxes)
+    (cond (word is "route") (Known row.Route)
+    Unknown))))))
+
+-- how many places the console has for a row
+unfoldable pub placesOf : Row → ℕ
+placesOf row.Tails = 4096
+placesOf row.Heads = 4096
+placesOf row.Weights = 4096
+placesOf row.X = 1024
+placesOf row.Y = 1024
+placesOf row.Boxes = 16384
+placesOf row.Route = 1024
+
+-- whether a row's numbers may be negative
+unfoldable pub signedRow : Row → Bool
+signedRow row.Tails = false
+signedRow row.Heads = false
+signedRow row.Weights = false
+signedRow row.X = true
+signedRow row.Y = true
+signedRow row.Boxes = true
+signedRow row.Route = false

@@ -1,0 +1,30 @@
+-- The words of a line. Assumes nothing: these are definitions.
+use Prim.Native.Nat.{ℕ, _+_}
+use Prim.Native.Char.{code}
+use mathlib.Core.List.{List, [], _∷_}
+use mathlib.Core.Bool.{Bool, true, false, _&&_, _||_}
+use lib.Dec.{eqb, leb}
+use lib.ListN.{length, drop, getD}
+use Rattle.scan.specs.Pieces.{pieces, firstAt}
+
+-- Words are divided by single spaces; an empty text has none.
+abbrev pub wordsOf : List ℕ → List (List ℕ)
+wordsOf s = pieces (code " ") [] s
+
+-- the word in a place, from 0, or an empty one where there are fewer
+abbrev pub word : ℕ → List (List ℕ) → List ℕ
+word i words = getD words i []
+
+-- what stands after the first space, or nothing
+abbrev pub afterWord : List ℕ → List ℕ
+afterWord s = drop (firstAt (code " ") s + 1) s
+
+-- whether a byte stands in a text
+unfoldable pub holdsByte : ℕ → List ℕ → Bool
+holdsByte b [] = false
+holdsByte b (c ∷ s) = eqb c b || holdsByte b s
+
+-- whether no piece is empty
+unfoldable pub noneEmpty : List (List ℕ) → Bool
+noneEmpty [] = true
+noneEmpty (w ∷ ws) = leb 1 (length w) && noneEmpty ws
