@@ -1,1 +1,4 @@
 pub mod NumberLaws
+pub mod WordLaws
+mod FaultLaws
+mod CommandLaws

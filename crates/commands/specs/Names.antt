@@ -13,6 +13,7 @@ use Rattle.commands.specs.declared.verbs.Row.the-variants as row
 use Rattle.commands.specs.declared.verbs.RowName.{RowName}
 use Rattle.commands.specs.declared.verbs.RowName.the-variants.{Known, Unknown}
 
+infixl 20 _is_
 abbrev pub _is_ : List ℕ → String → Bool
 word is name = sameBytes word (bytes name)
 
@@ -35,7 +36,7 @@ verbOf word =
     verb.NoVerb))))))))))))
 
 -- whether a line may have so many words, the command included; what is no command is told as such, whatever follows
-unfoldable pub takesWords : Verb → ℕ → Bool
+abbrev pub takesWords : Verb → ℕ → Bool
 takesWords verb.N words = eqb words 2
 takesWords verb.M words = eqb words 2
 takesWords verb.Lend words = leb 2 words
@@ -64,7 +65,7 @@ rowOf word =
     Unknown))))))
 
 -- how many places the console has for a row
-unfoldable pub placesOf : Row → ℕ
+abbrev pub placesOf : Row → ℕ
 placesOf row.Tails = 4096
 placesOf row.Heads = 4096
 placesOf row.Weights = 4096
@@ -74,7 +75,7 @@ placesOf row.Boxes = 16384
 placesOf row.Route = 1024
 
 -- whether a row's numbers may be negative
-unfoldable pub signedRow : Row → Bool
+abbrev pub signedRow : Row → Bool
 signedRow row.Tails = false
 signedRow row.Heads = false
 signedRow row.Weights = false

@@ -2,9 +2,9 @@
 use Prim.Native.Nat.{ℕ, _+_}
 use Prim.Native.Char.{code}
 use mathlib.Core.List.{List, [], _∷_}
-use mathlib.Core.Bool.{Bool, true, false, _&&_, _||_}
-use lib.Dec.{eqb, leb}
-use lib.ListN.{length, drop, getD}
+use mathlib.Core.Bool.{Bool, true, false, _||_}
+use lib.Dec.{eqb}
+use lib.ListN.{drop, getD}
 use Rattle.scan.specs.Pieces.{pieces, firstAt}
 
 -- Words are divided by single spaces; an empty text has none.
@@ -27,4 +27,5 @@ holdsByte b (c ∷ s) = eqb c b || holdsByte b s
 -- whether no piece is empty
 unfoldable pub noneEmpty : List (List ℕ) → Bool
 noneEmpty [] = true
-noneEmpty (w ∷ ws) = leb 1 (length w) && noneEmpty ws
+noneEmpty ([] ∷ ws) = false
+noneEmpty ((b ∷ w) ∷ ws) = noneEmpty ws

@@ -37,7 +37,7 @@ pub fn judge_line(line: &[u8]) -> Judged
 
 // One word where a row's number is to stand.
 fn judge_value(word: &[u8], is_signed: bool) -> Judged
-    ensures { λ r. ⌜ r ≡ valueJudged is-signed (now (word .entry)) ⌝ }
+    ensures { λ r. ⌜ r ≡ valueJudged «is_signed» (now (word .entry)) ⌝ }
 {
     if is_signed {
         let z = read_signed(word);
@@ -55,7 +55,7 @@ fn judge_value(word: &[u8], is_signed: bool) -> Judged
 
 // All the words where a row's numbers are to stand, from the left.
 pub fn judge_values(words: &[u8], is_signed: bool) -> Judged
-    ensures { λ r. ⌜ r ≡ valuesJudged is-signed (wordsOf (now (words .entry))) ⌝ }
+    ensures { λ r. ⌜ r ≡ valuesJudged «is_signed» (wordsOf (now (words .entry))) ⌝ }
 {
     let mut at = 0;
     while at < words.len() {

@@ -46,9 +46,13 @@ impl Row {
         ensures { λ r. ⌜ r ≡ placesOf self ⌝ }
     {
         match self {
-            Row::X | Row::Y | Row::Route => 1024,
+            Row::Tails => 4096,
+            Row::Heads => 4096,
+            Row::Weights => 4096,
+            Row::X => 1024,
+            Row::Y => 1024,
             Row::Boxes => 16384,
-            _ => 4096,
+            Row::Route => 1024,
         }
     }
 
@@ -57,8 +61,13 @@ impl Row {
         ensures { λ r. ⌜ r ≡ signedRow self ⌝ }
     {
         match self {
-            Row::X | Row::Y | Row::Boxes => true,
-            _ => false,
+            Row::Tails => false,
+            Row::Heads => false,
+            Row::Weights => false,
+            Row::X => true,
+            Row::Y => true,
+            Row::Boxes => true,
+            Row::Route => false,
         }
     }
 }
@@ -98,11 +107,19 @@ pub fn takes(verb: Verb, words: usize) -> bool
     ensures { λ r. ⌜ r ≡ takesWords verb words ⌝ }
 {
     match verb {
-        Verb::N | Verb::M | Verb::Gr | Verb::Co => words == 2,
-        Verb::Build | Verb::Check | Verb::Fresh | Verb::Help => words == 1,
-        Verb::Update | Verb::Search | Verb::Boxed => words == 3,
-        Verb::Show => (words == 2) | (words == 3),
+        Verb::N => words == 2,
+        Verb::M => words == 2,
         Verb::Lend => 2 <= words,
+        Verb::Show => (words == 2) | (words == 3),
+        Verb::Gr => words == 2,
+        Verb::Co => words == 2,
+        Verb::Build => words == 1,
+        Verb::Check => words == 1,
+        Verb::Update => words == 3,
+        Verb::Search => words == 3,
+        Verb::Boxed => words == 3,
+        Verb::Fresh => words == 1,
+        Verb::Help => words == 1,
         Verb::NoVerb => true,
     }
 }

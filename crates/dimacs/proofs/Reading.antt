@@ -16,7 +16,7 @@ use Rattle.scan.specs.Held.{heldLine}
 use Rattle.scan.specs.declared.fields.Numbers.{Numbers}
 use Rattle.scan.specs.declared.line.Line.{Line}
 use Rattle.scan.specs.declared.line.Line.the-variants.{Problem, Data}
-use Rattle.scan.proofs.PieceLaws.{lines-step}
+use Rattle.scan.proofs.PieceLaws.{pieces-step}
 use Rattle.dimacs.specs.Formats.{formatLine, rulesOf}
 use Rattle.dimacs.specs.Judgement.{judged, ended}
 use Rattle.dimacs.specs.Texts.{Outcome, read, refused, State, place, next, onJudged, readLines, readText}
@@ -70,7 +70,7 @@ module _ (F : Format) (text : List ℕ) (h : Head) (taken : List Bool) (lines : 
   unfolding readLines
   turn =
       rw (same-judgement, g .rules, g .line-cut, g .text-left)
-      (g .going .same ∙ rw (lines-step (drop at text) e (g .line-end ∙ ap (firstAt 10) (g .text-left)) (simp length-drop (omega (arith, g .more))), drop-drop (e + 1) at text, ← add-assoc at e 1))
+      (g .going .same ∙ rw (pieces-step 10 (drop at text) e (g .line-end ∙ ap (firstAt 10) (g .text-left)) (simp length-drop (omega (arith, g .more))), drop-drop (e + 1) at text, ← add-assoc at e 1))
 
   pub line-out : (x : Refusal) → j ≡ Refused x → readText F text ≡ refused x
   unfolding onJudged

@@ -11,7 +11,7 @@ use lib.Dec.{eqb}
 use lib.ListN.{length, getD, take, drop, length-drop, drop-of-length-le}
 use lib.Seq.{drop-cons, take-all}
 use borrow.Author.Tests.{eq-eqb, ne-eqb}
-use Rattle.scan.specs.Pieces.{opening, pieces, firstAt, sameBytes, linesOf, fieldsOf}
+use Rattle.scan.specs.Pieces.{opening, pieces, firstAt, sameBytes, fieldsOf}
 
 -- what stands from i on, by its first byte
 pub at-cons : (s : List ℕ) (i : ℕ) → i < length s → drop i s ≡ getD s i 0 ∷ drop (i + 1) s
@@ -100,18 +100,18 @@ pieces-whole sep last b (c ∷ t) h l = by-first (eqb b sep) (λ k. pieces-whole
     by-first true ih k = absurd (not-suc-le-zero k)
     by-first false ih k = rw (ih (le-of-suc-le-suc k))
 
--- a text that is not empty: its first line, and the lines after that
-pub lines-step : (s : List ℕ) (e : ℕ) → e ≡ firstAt 10 s → 0 < length s → linesOf s ≡ take e s ∷ linesOf (drop (e + 1) s)
+-- a text that is not empty, in pieces of which the last may lack its end: the first, and those after it
+pub pieces-step : (sep : ℕ) (s : List ℕ) (e : ℕ) → e ≡ firstAt sep s → 0 < length s → pieces sep [] s ≡ take e s ∷ pieces sep [] (drop (e + 1) s)
 unfolding pieces
-lines-step [] e p h = absurd (not-suc-le-zero h)
-lines-step (b ∷ t) e p h =
+pieces-step sep [] e p h = absurd (not-suc-le-zero h)
+pieces-step sep (b ∷ t) e p h =
     rw (p, add-one)
-    (⊎-elim (λ q. whole (le-of-eq (sym q))) (λ k. pieces-cut 10 [] (b ∷ t) k) (eq-or-lt-of-le (first-le 10 (b ∷ t))))
+    (⊎-elim (λ q. whole (le-of-eq (sym q))) (λ k. pieces-cut sep [] (b ∷ t) k) (eq-or-lt-of-le (first-le sep (b ∷ t))))
   where
-    whole : length (b ∷ t) ≤ firstAt 10 (b ∷ t) → pieces 10 [] (b ∷ t) ≡ take (firstAt 10 (b ∷ t)) (b ∷ t) ∷ pieces 10 [] (drop (suc (firstAt 10 (b ∷ t))) (b ∷ t))
+    whole : length (b ∷ t) ≤ firstAt sep (b ∷ t) → pieces sep [] (b ∷ t) ≡ take (firstAt sep (b ∷ t)) (b ∷ t) ∷ pieces sep [] (drop (suc (firstAt sep (b ∷ t))) (b ∷ t))
     whole k =
-        pieces-whole 10 [] b t k (inl refl)
-        ∙ sym (ap₂ (λ (l : List ℕ) (r : List ℕ). l ∷ pieces 10 [] r) (take-all (firstAt 10 (b ∷ t)) (b ∷ t) k) (drop-of-length-le (b ∷ t) (le-trans k (le-suc _))))
+        pieces-whole sep [] b t k (inl refl)
+        ∙ sym (ap₂ (λ (l : List ℕ) (r : List ℕ). l ∷ pieces sep [] r) (take-all (firstAt sep (b ∷ t)) (b ∷ t) k) (drop-of-length-le (b ∷ t) (le-trans k (le-suc _))))
 
 -- the fields of a line: the first, and those after it; or one alone
 pub fields-cut : (s : List ℕ) (e : ℕ) → e ≡ firstAt 32 s → e < length s → fieldsOf s ≡ take e s ∷ fieldsOf (drop (e + 1) s)

@@ -1,12 +1,17 @@
 -- `commands::words::are_apart` meets its contract. Assumes nothing.
 use Prim.Native.Nat.{_≤_, _-_}
-use lib.ListN.{length}
+use mathlib.Core.Path.{_≡_, sym, _∙_}
+use native.Mathlib.Omega.{arith}
+use lib.ListN.{length, drop}
+use Rattle.scan.specs.Pieces.{fieldsOf}
+use Rattle.commands.specs.Words.{noneEmpty}
+use Rattle.commands.proofs.WordLaws.{apart, apart-step, apart-not, apart-end}
 use borrow.Author.Needs.{needs}
 use Rattle.commands.proofs.words.are_apart.Statement.{statement}
 use Rattle.commands.proofs.words.are_apart.Tie as tie
 
 abbrev Inv-loop : tie.InvT-loop
-Inv-loop s was-space₀ i₀ was-space i = i ≤ length s
+Inv-loop s was-space₀ i₀ was-space i = (i ≤ length s) × (noneEmpty (fieldsOf s) ≡ apart was-space (drop i s))
 
 abbrev μ-loop : tie.MeasureT-loop
 μ-loop s was-space₀ i₀ was-space i = length s - i
@@ -18,7 +23,9 @@ shared-slice-read-is-space : tie.Need-shared-slice-read-is-space Inv-loop μ-loo
 shared-slice-read-is-space c = search needs
 
 returns : tie.Need-returns Inv-loop μ-loop
-returns c = search needs
+returns c =
+    let loop = c .before .before .before .loop in
+    sym (loop .inv .1 ∙ apart-not (loop .was-space) _ (loop .i) (c .before .before .loop-test .taken) (c .if1 .taken))
 
 add-i : tie.Need-add-i Inv-loop μ-loop
 add-i c = search needs
@@ -27,10 +34,12 @@ loop-less : tie.Need-loop-less Inv-loop μ-loop
 loop-less c = search needs
 
 loop-again : tie.Need-loop-again Inv-loop μ-loop
-loop-again c = search needs
+loop-again c =
+    let loop = c .before .before .before .loop in
+    (omega arith, loop .inv .1 ∙ apart-step (loop .was-space) _ (loop .i) (c .before .before .loop-test .taken) (c .if1 .left))
 
 returns-2 : tie.Need-returns-2 Inv-loop μ-loop
-returns-2 c = search needs
+returns-2 c = sym (c .before .loop .inv .1 ∙ apart-end (c .before .loop .was-space) _ _ (c .loop-test .left))
 
 pub are-apart-spec : {M : Type 1} → statement M
 are-apart-spec =

@@ -1,38 +1,54 @@
 -- `commands::words::count_words` meets its contract. Assumes nothing.
-use Prim.Native.Nat.{_≤_, _-_, _+_}
+use Prim.Native.Nat.{_≤_, _+_, _-_}
+use mathlib.Core.Path.{_≡_, ap}
 use native.Mathlib.Omega.{arith}
-use lib.ListN.{length}
-use mathlib.Core.Logic.{⊎-elim}
+use lib.ListN.{length, drop}
+use Rattle.scan.proofs.PieceLaws.{rest-long}
+use Rattle.commands.specs.Words.{wordsOf}
+use Rattle.commands.proofs.WordLaws.{words-turn, words-end}
 use borrow.Author.Needs.{needs}
 use Rattle.commands.proofs.words.count_words.Statement.{statement}
 use Rattle.commands.proofs.words.count_words.Tie as tie
 
 abbrev Inv-loop : tie.InvT-loop
-Inv-loop s n₀ i₀ n i = (i ≤ length s) × (n ≤ i + 1)
+Inv-loop s n₀ at₀ n at = (at ≤ length s + 1) × (n ≤ at) × (length (wordsOf s) ≡ n + length (wordsOf (drop at s)))
 
 abbrev μ-loop : tie.MeasureT-loop
-μ-loop s n₀ i₀ n i = length s - i
+μ-loop s n₀ at₀ n at = length s + 1 - at
 
 loop-holds : tie.Need-loop-holds Inv-loop μ-loop
 loop-holds c = search needs
 
-shared-slice-read-if1 : tie.Need-shared-slice-read-if1 Inv-loop μ-loop
-shared-slice-read-if1 c = search needs
+rest-requires : tie.Need-rest-requires Inv-loop μ-loop
+rest-requires c κs = search needs
+
+first-at-requires : tie.Need-first-at-requires Inv-loop μ-loop
+first-at-requires c κs = search needs
 
 add-n : tie.Need-add-n Inv-loop μ-loop
 add-n c = search needs
 
-add-i : tie.Need-add-i Inv-loop μ-loop
-add-i c = search needs
+add-at : tie.Need-add-at Inv-loop μ-loop
+add-at c = let l = rest-long (c .before .before .before .before .before .args .s .now) _ (c .before .before .before .loop .at) (c .before .rest .ensures) in omega arith
+
+add-at-2 : tie.Need-add-at-2 Inv-loop μ-loop
+add-at-2 c = let l = rest-long (c .before .before .before .before .before .args .s .now) _ (c .before .before .before .loop .at) (c .before .rest .ensures) in omega arith
 
 loop-less : tie.Need-loop-less Inv-loop μ-loop
-loop-less c = omega arith
+loop-less c = let l = rest-long (c .before .before .before .before .before .args .s .now) _ (c .before .before .before .loop .at) (c .before .rest .ensures) in omega arith
 
 loop-again : tie.Need-loop-again Inv-loop μ-loop
-loop-again c = ⊎-elim (λ w. (omega arith, omega arith)) (λ w. (omega arith, omega arith)) (c .if1 .came)
+loop-again c =
+    let loop = c .before .before .before .loop in
+    let s = c .before .before .before .before .before .args .s .now in
+    let l = rest-long s _ (loop .at) (c .before .rest .ensures) in
+    let one = ap length (words-turn s _ (loop .at) _ (c .before .rest .ensures) (c .first-at .ensures .0) (c .before .before .loop-test .taken)) in
+    (omega arith, omega arith, omega (arith, one, loop .inv .2))
 
 returns : tie.Need-returns Inv-loop μ-loop
-returns c = search needs
+returns c =
+    let none = ap length (words-end (c .before .before .before .args .s .now) (c .before .loop .at) (c .loop-test .left)) in
+    omega (arith, none, c .before .loop .inv .2)
 
 pub count-words-spec : {M : Type 1} → statement M
 count-words-spec =
@@ -41,9 +57,11 @@ count-words-spec =
     Inv-loop
     μ-loop
     loop-holds
-    shared-slice-read-if1
+    rest-requires
+    first-at-requires
     add-n
-    add-i
+    add-at
+    add-at-2
     loop-less
     loop-again
     returns)

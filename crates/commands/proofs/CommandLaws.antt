@@ -1,0 +1,97 @@
+-- What the code reads word by word is what the definitions ask for. Assumes nothing.
+use mathlib.Core.Path.{_≡_, refl, sym, _∙_}
+use mathlib.Core.List.{List}
+use mathlib.Core.Bool.{Bool, cond}
+use Prim.Native.Nat.{ℕ, _<_, _≤_}
+use native.Mathlib.Omega.{arith}
+use lib.Dec.{leb}
+use lib.ListN.{length, take, drop}
+use borrow.Author.Tests.{le-leb, lt-leb}
+use Rattle.scan.specs.Pieces.{firstField}
+use Rattle.scan.proofs.PieceLaws.{pieces-step}
+use Rattle.commands.specs.Words.{wordsOf, word, afterWord}
+use Rattle.commands.specs.Names.{verbOf, takesWords, rowOf, placesOf, signedRow}
+use Rattle.commands.specs.Commands.{lineJudged, number, valuesJudged, withNumber, withPair, withRow, onceGood, lendAsked, showAsked, asked, commandOf}
+use Rattle.commands.specs.declared.Fault.{Fault}
+use Rattle.commands.specs.declared.Fault.the-variants.{WordCount, NoRow, LongRow}
+use Rattle.commands.specs.declared.Request.the-variants.{Show}
+use Rattle.commands.specs.declared.Shown.the-variants.{All, First}
+use Rattle.commands.specs.declared.Command.{Command}
+use Rattle.commands.specs.declared.Command.the-variants.{Faulty, Lend, Other}
+use Rattle.commands.specs.declared.arguments.Pair.{Pair}
+use Rattle.commands.specs.declared.arguments.Pair.the-variants as pair
+use Rattle.commands.specs.declared.faults.Judged.{Judged}
+use Rattle.commands.specs.declared.faults.Judged.the-variants.{Good, Bad}
+use Rattle.commands.specs.declared.numbers.Count.{Count}
+use Rattle.commands.specs.declared.numbers.Count.the-variants as count
+use Rattle.commands.specs.declared.verbs.Verb.{Verb}
+use Rattle.commands.specs.declared.verbs.Row.{Row}
+use Rattle.commands.specs.declared.verbs.RowName.{RowName}
+use Rattle.commands.specs.declared.verbs.RowName.the-variants.{Known, Unknown}
+use Rattle.commands.proofs.WordLaws.{words-none, word-first, words-after}
+
+-- ---- a number, two numbers, or a row, as the first words
+
+pub number-is : (go : ℕ → Command) (s f : List ℕ) (n : Count) (v : ℕ) → f ≡ firstField s → n ≡ number f → n ≡ count.Is v → withNumber (number (word 0 (wordsOf s))) go ≡ go v
+unfolding withNumber
+number-is go s f n v p q e = rw (word-first s, sym p, sym q ∙ e)
+
+pub number-not : (go : ℕ → Command) (s f : List ℕ) (n : Count) (fault : Fault) → f ≡ firstField s → n ≡ number f → n ≡ count.Not fault → withNumber (number (word 0 (wordsOf s))) go ≡ Faulty fault
+unfolding withNumber
+number-not go s f n fault p q e = rw (word-first s, sym p, sym q ∙ e)
+
+pub pair-are : (go : ℕ → ℕ → Command) (p q : Pair) (a b : ℕ) → p ≡ q → p ≡ pair.Are a b → withPair q go ≡ go a b
+unfolding withPair
+pair-are go p q a b h e = rw (sym h ∙ e)
+
+pub pair-not : (go : ℕ → ℕ → Command) (p q : Pair) (fault : Fault) → p ≡ q → p ≡ pair.Not fault → withPair q go ≡ Faulty fault
+unfolding withPair
+pair-not go p q fault h e = rw (sym h ∙ e)
+
+pub row-known : (go : List (List ℕ) → Row → Command) (s f more : List ℕ) (name : RowName) (row : Row) → f ≡ firstField s → name ≡ rowOf f → name ≡ Known row → more ≡ afterWord s
+    → withRow (rowOf (word 0 (wordsOf s))) (go (drop 1 (wordsOf s))) ≡ go (wordsOf more) row
+unfolding withRow
+row-known go s f more name row p q e m = rw (word-first s, sym p, sym q ∙ e, m, words-after s)
+
+pub row-unknown : (go : Row → Command) (s f : List ℕ) (name : RowName) → f ≡ firstField s → name ≡ rowOf f → name ≡ Unknown
+    → withRow (rowOf (word 0 (wordsOf s))) go ≡ Faulty NoRow
+unfolding withRow
+row-unknown go s f name p q e = rw (word-first s, sym p, sym q ∙ e)
+
+-- ---- `lend` and `show` with a row
+
+pub lend-long : (words : List (List ℕ)) (row : Row) (k places : ℕ) → k ≡ length words → places ≡ placesOf row → places < k → lendAsked words row ≡ Faulty LongRow
+unfolding lendAsked
+lend-long words row k places p q h = rw (sym p, sym q, lt-leb k places h)
+
+pub lend-judged : (words : List (List ℕ)) (row : Row) (k places : ℕ) (s : Bool) (j : Judged) → k ≡ length words → places ≡ placesOf row → k ≤ places → s ≡ signedRow row → j ≡ valuesJudged s words
+    → lendAsked words row ≡ onceGood j (Lend row)
+unfolding lendAsked
+lend-judged words row k places s j p q h e f = rw (sym p, sym q, le-leb k places h, sym e, f)
+
+pub once-good : (j : Judged) (command : Command) → j ≡ Good → onceGood j command ≡ command
+unfolding onceGood
+once-good j command e = rw e
+
+pub once-bad : (j : Judged) (command : Command) (fault : Fault) → j ≡ Bad fault → onceGood j command ≡ Faulty fault
+unfolding onceGood
+once-bad j command fault e = rw e
+
+pub show-all : (s : List ℕ) (row : Row) → length s ≡ 0 → showAsked (wordsOf s) row ≡ Other (Show row All)
+unfolding showAsked
+show-all s row e = rw (words-none s e)
+
+pub show-first : (s : List ℕ) (row : Row) → (length s ≡ 0 → ⊥) → showAsked (wordsOf s) row ≡ withNumber (number (word 0 (wordsOf s))) (λ v. Other (Show row (First v)))
+unfolding showAsked
+show-first s row n = rw (pieces-step 32 s _ refl (omega (arith, n)))
+
+-- ---- a line
+
+pub command-bad : (line : List ℕ) (j : Judged) (fault : Fault) → j ≡ lineJudged line → j ≡ Bad fault → commandOf line ≡ Faulty fault
+unfolding commandOf
+command-bad line j fault p e = once-bad (lineJudged line) _ fault (sym p ∙ e)
+
+pub command-good : (line f : List ℕ) (j : Judged) (verb : Verb) (k : ℕ) (t : Bool) → j ≡ lineJudged line → j ≡ Good → f ≡ firstField line → verb ≡ verbOf f → k ≡ length (wordsOf line) → t ≡ takesWords verb k
+    → commandOf line ≡ cond t (asked verb (drop 1 (wordsOf line))) (Faulty WordCount)
+unfolding commandOf
+command-good line f j verb k t p e q v l h = once-good (lineJudged line) _ (sym p ∙ e) ∙ rw (h, l, v, q, word-first line)

@@ -1,0 +1,239 @@
+-- `commands::arguments::ask` meets its contract. Assumes nothing.
+use mathlib.Core.Path.{sym}
+use Rattle.commands.specs.Commands.{asked}
+use Rattle.commands.proofs.CommandLaws.{number-is, number-not, pair-are, pair-not}
+use borrow.Author.Needs.{needs}
+use Rattle.commands.proofs.arguments.ask.Statement.{statement}
+use Rattle.commands.proofs.arguments.ask.Tie as tie
+
+enum-told : tie.Need-enum-told
+enum-told c = search needs
+
+first-word-requires : tie.Need-first-word-requires
+first-word-requires c κs = search needs
+
+read-count-requires : tie.Need-read-count-requires
+read-count-requires c κs = search needs
+
+enum-known-n : tie.Need-enum-known-n
+enum-known-n c = search needs
+
+enum-known-fault : tie.Need-enum-known-fault
+enum-known-fault c = search needs
+
+enum-told-2 : tie.Need-enum-told-2
+enum-told-2 c = search needs
+
+first-word-requires-2 : tie.Need-first-word-requires-2
+first-word-requires-2 c κs = search needs
+
+read-count-requires-2 : tie.Need-read-count-requires-2
+read-count-requires-2 c κs = search needs
+
+enum-known-m : tie.Need-enum-known-m
+enum-known-m c = search needs
+
+enum-known-fault-2 : tie.Need-enum-known-fault-2
+enum-known-fault-2 c = search needs
+
+enum-told-3 : tie.Need-enum-told-3
+enum-told-3 c = search needs
+
+lend-of-requires : tie.Need-lend-of-requires
+lend-of-requires c κs = search needs
+
+enum-told-4 : tie.Need-enum-told-4
+enum-told-4 c = search needs
+
+show-of-requires : tie.Need-show-of-requires
+show-of-requires c κs = search needs
+
+enum-told-5 : tie.Need-enum-told-5
+enum-told-5 c = search needs
+
+enum-told-6 : tie.Need-enum-told-6
+enum-told-6 c = search needs
+
+enum-told-7 : tie.Need-enum-told-7
+enum-told-7 c = search needs
+
+enum-told-8 : tie.Need-enum-told-8
+enum-told-8 c = search needs
+
+enum-told-9 : tie.Need-enum-told-9
+enum-told-9 c = search needs
+
+read-pair-requires : tie.Need-read-pair-requires
+read-pair-requires c κs = search needs
+
+enum-known-arc : tie.Need-enum-known-arc
+enum-known-arc c = search needs
+
+enum-known-fault-3 : tie.Need-enum-known-fault-3
+enum-known-fault-3 c = search needs
+
+enum-told-10 : tie.Need-enum-told-10
+enum-told-10 c = search needs
+
+read-pair-requires-2 : tie.Need-read-pair-requires-2
+read-pair-requires-2 c κs = search needs
+
+enum-known-s : tie.Need-enum-known-s
+enum-known-s c = search needs
+
+enum-known-fault-4 : tie.Need-enum-known-fault-4
+enum-known-fault-4 c = search needs
+
+enum-told-11 : tie.Need-enum-told-11
+enum-told-11 c = search needs
+
+read-pair-requires-3 : tie.Need-read-pair-requires-3
+read-pair-requires-3 c κs = search needs
+
+enum-known-s-2 : tie.Need-enum-known-s-2
+enum-known-s-2 c = search needs
+
+enum-known-fault-5 : tie.Need-enum-known-fault-5
+enum-known-fault-5 c = search needs
+
+enum-told-12 : tie.Need-enum-told-12
+enum-told-12 c = search needs
+
+enum-told-13 : tie.Need-enum-told-13
+enum-told-13 c = search needs
+
+enum-told-14 : tie.Need-enum-told-14
+enum-told-14 c = search needs
+
+returns : tie.Need-returns
+unfolding asked
+returns c = rw (c .before .before .before .before .before .enum-told .given .1) (sym (number-is _ _ _ _ _ (c .before .before .before .before .first-word .ensures) (c .before .before .before .read-count .ensures) (c .before .n .given .1)))
+
+returns-2 : tie.Need-returns-2
+unfolding asked
+returns-2 c = rw (c .before .before .before .before .before .enum-told .given .1) (sym (number-not _ _ _ _ _ (c .before .before .before .before .first-word .ensures) (c .before .before .before .read-count .ensures) (c .before .fault .given .1)))
+
+returns-3 : tie.Need-returns-3
+unfolding asked
+returns-3 c = rw (c .before .before .before .before .before .enum-told2 .given .1) (sym (number-is _ _ _ _ _ (c .before .before .before .before .first-word2 .ensures) (c .before .before .before .read-count2 .ensures) (c .before .m .given .1)))
+
+returns-4 : tie.Need-returns-4
+unfolding asked
+returns-4 c = rw (c .before .before .before .before .before .enum-told2 .given .1) (sym (number-not _ _ _ _ _ (c .before .before .before .before .first-word2 .ensures) (c .before .before .before .read-count2 .ensures) (c .before .fault2 .given .1)))
+
+returns-5 : tie.Need-returns-5
+unfolding asked
+returns-5 c = rw (c .before .enum-told3 .given .1) (c .lend-of .ensures)
+
+returns-6 : tie.Need-returns-6
+unfolding asked
+returns-6 c = rw (c .before .enum-told4 .given .1) (c .show-of .ensures)
+
+returns-7 : tie.Need-returns-7
+unfolding asked
+returns-7 c = rw (c .enum-told5 .given .1)
+
+returns-8 : tie.Need-returns-8
+unfolding asked
+returns-8 c = rw (c .enum-told6 .given .1)
+
+returns-9 : tie.Need-returns-9
+unfolding asked
+returns-9 c = rw (c .enum-told7 .given .1)
+
+returns-10 : tie.Need-returns-10
+unfolding asked
+returns-10 c = rw (c .enum-told8 .given .1)
+
+returns-11 : tie.Need-returns-11
+unfolding asked
+returns-11 c = rw (c .before .before .before .before .enum-told9 .given .1) (sym (pair-are _ _ _ _ _ (c .before .before .before .read-pair .ensures) (c .before .arc .given .1)))
+
+returns-12 : tie.Need-returns-12
+unfolding asked
+returns-12 c = rw (c .before .before .before .before .enum-told9 .given .1) (sym (pair-not _ _ _ _ (c .before .before .before .read-pair .ensures) (c .before .fault3 .given .1)))
+
+returns-13 : tie.Need-returns-13
+unfolding asked
+returns-13 c = rw (c .before .before .before .before .enum-told10 .given .1) (sym (pair-are _ _ _ _ _ (c .before .before .before .read-pair2 .ensures) (c .before .s .given .1)))
+
+returns-14 : tie.Need-returns-14
+unfolding asked
+returns-14 c = rw (c .before .before .before .before .enum-told10 .given .1) (sym (pair-not _ _ _ _ (c .before .before .before .read-pair2 .ensures) (c .before .fault4 .given .1)))
+
+returns-15 : tie.Need-returns-15
+unfolding asked
+returns-15 c = rw (c .before .before .before .before .enum-told11 .given .1) (sym (pair-are _ _ _ _ _ (c .before .before .before .read-pair3 .ensures) (c .before .s2 .given .1)))
+
+returns-16 : tie.Need-returns-16
+unfolding asked
+returns-16 c = rw (c .before .before .before .before .enum-told11 .given .1) (sym (pair-not _ _ _ _ (c .before .before .before .read-pair3 .ensures) (c .before .fault5 .given .1)))
+
+returns-17 : tie.Need-returns-17
+unfolding asked
+returns-17 c = rw (c .enum-told12 .given .1)
+
+returns-18 : tie.Need-returns-18
+unfolding asked
+returns-18 c = rw (c .enum-told13 .given .1)
+
+returns-19 : tie.Need-returns-19
+unfolding asked
+returns-19 c = rw (c .enum-told14 .given .1)
+
+pub ask-spec : {M : Type 1} → statement M
+ask-spec =
+    tie.close
+    (tie.spec
+    enum-told
+    first-word-requires
+    read-count-requires
+    enum-known-n
+    enum-known-fault
+    enum-told-2
+    first-word-requires-2
+    read-count-requires-2
+    enum-known-m
+    enum-known-fault-2
+    enum-told-3
+    lend-of-requires
+    enum-told-4
+    show-of-requires
+    enum-told-5
+    enum-told-6
+    enum-told-7
+    enum-told-8
+    enum-told-9
+    read-pair-requires
+    enum-known-arc
+    enum-known-fault-3
+    enum-told-10
+    read-pair-requires-2
+    enum-known-s
+    enum-known-fault-4
+    enum-told-11
+    read-pair-requires-3
+    enum-known-s-2
+    enum-known-fault-5
+    enum-told-12
+    enum-told-13
+    enum-told-14
+    returns
+    returns-2
+    returns-3
+    returns-4
+    returns-5
+    returns-6
+    returns-7
+    returns-8
+    returns-9
+    returns-10
+    returns-11
+    returns-12
+    returns-13
+    returns-14
+    returns-15
+    returns-16
+    returns-17
+    returns-18
+    returns-19)

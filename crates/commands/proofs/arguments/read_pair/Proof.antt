@@ -1,0 +1,75 @@
+-- `commands::arguments::read_pair` meets its contract. Assumes nothing.
+use mathlib.Core.Path.{_≡_, sym, ap, ap₂, _∙_}
+use Rattle.scan.specs.Pieces.{firstField}
+use Rattle.commands.specs.Words.{wordsOf}
+use Rattle.commands.specs.Commands.{number, pairOf, pairIn}
+use Rattle.commands.specs.declared.numbers.Count.{Count}
+use Rattle.commands.proofs.WordLaws.{word-first, word-second}
+use borrow.Author.Needs.{needs}
+use Rattle.commands.proofs.arguments.read_pair.Statement.{statement}
+use Rattle.commands.proofs.arguments.read_pair.Tie as tie
+
+first-word-requires : tie.Need-first-word-requires
+first-word-requires c κs = search needs
+
+read-count-requires : tie.Need-read-count-requires
+read-count-requires c κs = search needs
+
+after-word-requires : tie.Need-after-word-requires
+after-word-requires c κs = search needs
+
+first-word-requires-2 : tie.Need-first-word-requires-2
+first-word-requires-2 c κs = search needs
+
+read-count-requires-2 : tie.Need-read-count-requires-2
+read-count-requires-2 c κs = search needs
+
+enum-known-a : tie.Need-enum-known-a
+enum-known-a c = search needs
+
+enum-known-a-2 : tie.Need-enum-known-a-2
+enum-known-a-2 c = search needs
+
+enum-known-b : tie.Need-enum-known-b
+enum-known-b c = search needs
+
+enum-known-b-2 : tie.Need-enum-known-b-2
+enum-known-b-2 c = search needs
+
+-- the two words that are read are the first and the second
+read-both : (c : tie.After-read-count2)
+    → pairOf (c .before .before .before .read-count .result) (c .read-count2 .result) ≡ pairIn (wordsOf (c .before .before .before .before .before .before .args .words .now))
+read-both c =
+    let words = c .before .before .before .before .before .before .args .words .now in
+    let first = c .before .before .before .before .first-word .ensures ∙ sym (word-first words) in
+    let second = c .before .first-word2 .ensures ∙ ap firstField (c .before .before .after-word .ensures) ∙ sym (word-second words) in
+    ap₂ pairOf (c .before .before .before .read-count .ensures ∙ ap number first) (c .read-count2 .ensures ∙ ap number second)
+
+returns : tie.Need-returns
+unfolding pairOf
+returns c = ap (λ (a : Count). pairOf a (c .before .before .before .read-count2 .result)) (sym (c .before .a .given .1)) ∙ read-both (c .before .before .before)
+
+returns-2 : tie.Need-returns-2
+unfolding pairOf
+returns-2 c = ap₂ pairOf (sym (c .before .before .before .before .a2 .given .1)) (sym (c .before .b .given .1)) ∙ read-both (c .before .before .before .before .before .before)
+
+returns-3 : tie.Need-returns-3
+unfolding pairOf
+returns-3 c = ap₂ pairOf (sym (c .before .before .before .before .a2 .given .1)) (sym (c .before .b2 .given .1)) ∙ read-both (c .before .before .before .before .before .before)
+
+pub read-pair-spec : {M : Type 1} → statement M
+read-pair-spec =
+    tie.close
+    (tie.spec
+    first-word-requires
+    read-count-requires
+    after-word-requires
+    first-word-requires-2
+    read-count-requires-2
+    enum-known-a
+    enum-known-a-2
+    enum-known-b
+    enum-known-b-2
+    returns
+    returns-2
+    returns-3)
