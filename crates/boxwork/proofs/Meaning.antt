@@ -10,8 +10,7 @@ use borrow.Author.Tests.{not-true}
 use lib.IntN.{ℤ}
 use Rattle.rules.specs.Paper.{accepted}
 use Rattle.rules.specs.declared.Judged.the-variants.{Fine}
-use Rattle.settling.specs.Toward.{rows}
-use Rattle.walks.specs.Rows.{Rows, Sound, at, network}
+use Rattle.walks.specs.Rows.{Rows, rows, Sound, at, network}
 use Rattle.walks.specs.Through.{InS, Consistent}
 use Rattle.walks.specs.Checking.{Misses, FirstMissed}
 use Rattle.settling.specs.Choice.{either, and-true, and-yes}

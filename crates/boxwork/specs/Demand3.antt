@@ -9,11 +9,10 @@ use lib.ListN.{length}
 use Rattle.rules.specs.Paper.{Reply, accepted}
 use Rattle.rules.specs.declared.Judged.{Judged}
 use Rattle.rules.specs.declared.Judged.the-variants.{Fine}
-use Rattle.walks.specs.Rows.{Rows, network}
+use Rattle.walks.specs.Rows.{Rows, rows, network}
 use Rattle.walks.specs.Through.{Begins}
 use Rattle.walks.specs.ThroughLaws.{inS-begins, begins-inS}
 use Rattle.walks.specs.Pruning.{pruning}
-use Rattle.settling.specs.Toward.{rows}
 use Rattle.search.specs.Says.{Says, SearchSays, BoxedSays, holding}
 use Rattle.boxwork.specs.Tight.{HoldsNode}
 use Rattle.boxwork.specs.Judge.{checkJudged}

@@ -1,6 +1,6 @@
 // Judging what the box work is lent: each refusal of a lower step is handed on as it came.
 ghost use mathlib.Core.Path.{_≡_};
-ghost use Rattle.settling.specs.Toward.{rows};
+ghost use Rattle.walks.specs.Rows.{rows};
 ghost use Rattle.boxwork.specs.Judge.{buildJudged, checkJudged, change, updateJudged};
 use rules::Judged;
 use rules::Refusal;

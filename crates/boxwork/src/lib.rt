@@ -3,7 +3,7 @@ ghost use mathlib.Core.Path.{_≡_};
 ghost use Prim.Native.Nat.{_-_, _≤_};
 ghost use lib.ListN.{length, set};
 ghost use Rattle.rules.specs.Paper.{judgedReply};
-ghost use Rattle.settling.specs.Toward.{rows};
+ghost use Rattle.walks.specs.Rows.{rows};
 ghost use Rattle.boxwork.specs.Says.{BuildSays, CheckSays, UpdateSays};
 use drawing::compare::Missed;
 use rules::Judged;

@@ -1,8 +1,7 @@
 // Boxes compared with the places that they must hold.
 ghost use Prim.Native.Nat.{_*_, _≤_};
 ghost use lib.ListN.{length};
-ghost use Rattle.walks.specs.Rows.{Sound};
-ghost use Rattle.settling.specs.Toward.{rows};
+ghost use Rattle.walks.specs.Rows.{rows, Sound};
 ghost use Rattle.drawing.specs.Leads.{leadsAt};
 ghost use Rattle.drawing.specs.Missed.{missB, missesB, Clear, FirstOf};
 use crate::grow::leads;

@@ -2,9 +2,8 @@
 ghost use mathlib.Core.Path.{_≡_};
 ghost use Prim.Native.Nat.{_*_, _≤_};
 ghost use lib.ListN.{length};
-ghost use Rattle.walks.specs.Rows.{Sound};
+ghost use Rattle.walks.specs.Rows.{rows, Sound};
 ghost use Rattle.settling.specs.LengthsTo.{onShortest};
-ghost use Rattle.settling.specs.Toward.{rows};
 ghost use Rattle.drawing.specs.Leads.{leadsB, leadsAt, leadsTo};
 ghost use Rattle.drawing.specs.Drawn.{Drawn};
 ghost use Rattle.drawing.specs.Grown.{Nodes, Started, GrownHead, GrownOnce, GrownAll};

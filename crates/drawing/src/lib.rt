@@ -2,8 +2,7 @@
 // with them. The labelling from a node t in the reverse network tells for every arc whether t is in its S(e).
 ghost use mathlib.Core.Path.{_≡_};
 ghost use Prim.Native.Nat.{_≤_};
-ghost use Rattle.walks.specs.Rows.{Sound};
-ghost use Rattle.settling.specs.Toward.{rows};
+ghost use Rattle.walks.specs.Rows.{rows, Sound};
 ghost use Rattle.drawing.specs.Leads.{lengthsTo};
 
 pub mod compare;

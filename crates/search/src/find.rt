@@ -2,8 +2,8 @@
 ghost use Prim.Native.Nat.{_≤_};
 ghost use lib.ListN.{length};
 ghost use Rattle.walks.specs.Walk.{kept};
-ghost use Rattle.walks.specs.Rows.{Sound, network};
-ghost use Rattle.settling.specs.Toward.{rows, Room, keeps};
+ghost use Rattle.walks.specs.Rows.{rows, Sound, network};
+ghost use Rattle.settling.specs.Toward.{Room, keeps};
 ghost use Rattle.search.specs.Paper.{paper};
 ghost use Rattle.search.specs.Says.{Answers};
 use crate::Answer;

@@ -3,7 +3,7 @@ ghost use mathlib.Core.Path.{_≡_};
 ghost use Prim.Native.Nat.{_≤_};
 ghost use lib.ListN.{length};
 ghost use Rattle.rules.specs.Judging.{passes};
-ghost use Rattle.settling.specs.Toward.{rows};
+ghost use Rattle.walks.specs.Rows.{rows};
 ghost use Rattle.search.specs.Judge.{sizes, arcRowsLong, boxRowsLong, goodArc, arcs, ends, networkJudged, searchJudged, boxedJudged};
 use rules::Judged;
 use rules::Refusal;

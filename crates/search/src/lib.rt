@@ -1,5 +1,5 @@
 // Route searches over rows as they are lent, with and without boxes.
-ghost use Rattle.settling.specs.Toward.{rows};
+ghost use Rattle.walks.specs.Rows.{rows};
 ghost use Rattle.search.specs.Paper.{paper};
 ghost use Rattle.search.specs.Says.{SearchSays, BoxedSays};
 use rules::Judged;

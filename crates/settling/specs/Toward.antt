@@ -5,15 +5,10 @@ use mathlib.Core.Bool.{Bool, true}
 use mathlib.Core.List.{List}
 use lib.IntN.{ℤ}
 use lib.ListN.{length}
-use Rattle.walks.specs.Rows.{Rows}
 use Rattle.geometry.specs.Box.{holdsB}
 use Rattle.geometry.specs.Row.{boxOf}
 use Rattle.settling.specs.declared.Toward.{Toward}
 use Rattle.settling.specs.declared.Toward.the-variants.{Anywhere, Place}
-
--- the rows as they are lent
-abbrev pub rows : List ℕ → List ℕ → List ℕ → Rows
-rows tails heads weights = record { tails = tails; heads = heads; weights = weights }
 
 -- an arc may be used: any, or one whose box holds the place
 abbrev pub keeps : Toward → List ℤ → ℕ → Bool

@@ -1,10 +1,10 @@
 // The run: node after node is settled.
 ghost use mathlib.Core.Path.{_≡_};
 ghost use Prim.Native.Nat.{_≤_};
-ghost use Rattle.walks.specs.Rows.{Sound};
+ghost use Rattle.walks.specs.Rows.{rows, Sound};
 ghost use mathlib.Core.Bool.{true};
 ghost use Rattle.settling.specs.Run.{searchOf, labelsOf};
-ghost use Rattle.settling.specs.Toward.{rows, Room, keeps};
+ghost use Rattle.settling.specs.Toward.{Room, keeps};
 use crate::Labels;
 use crate::Outcome;
 use crate::Pick;

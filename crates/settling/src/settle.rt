@@ -1,10 +1,10 @@
 // Labels at the start, and the settling step.
 ghost use mathlib.Core.Path.{_≡_};
 ghost use Prim.Native.Nat.{_≤_};
-ghost use Rattle.walks.specs.Rows.{Sound};
+ghost use Rattle.walks.specs.Rows.{rows, Sound};
 ghost use Rattle.settling.specs.Labels.{before, startOf, lengthOf, arcsOf};
 ghost use Rattle.settling.specs.Settle.{settleOf};
-ghost use Rattle.settling.specs.Toward.{rows, Room, keeps};
+ghost use Rattle.settling.specs.Toward.{Room, keeps};
 use crate::Labels;
 use crate::Toward;
 

@@ -2,10 +2,10 @@
 ghost use mathlib.Core.Path.{_≡_};
 ghost use Prim.Native.Nat.{_≤_};
 ghost use lib.ListN.{length};
-ghost use Rattle.walks.specs.Rows.{Sound};
+ghost use Rattle.walks.specs.Rows.{rows, Sound};
 ghost use Rattle.settling.specs.Labels.{arcsOf};
 ghost use Rattle.settling.specs.Trace.{fits, intoOf, traceOf};
-ghost use Rattle.settling.specs.Toward.{rows, Room, keeps};
+ghost use Rattle.settling.specs.Toward.{Room, keeps};
 use crate::Into;
 use crate::Labels;
 use crate::Toward;

@@ -12,6 +12,9 @@ pub record Rows : Type 0 where
   pub heads : List ℕ
   pub weights : List ℕ
 
+abbrev pub rows : List ℕ → List ℕ → List ℕ → Rows
+rows tails heads weights = record { tails = tails; heads = heads; weights = weights }
+
 -- a row's place i
 abbrev pub at : List ℕ → ℕ → ℕ
 at row i = getD row (i - 1) 0

@@ -3,7 +3,7 @@ use mathlib.Core.Path.{_≡_, sym, _∙_}
 use native.Mathlib.Omega.{arith}
 use borrow.Author.Needs.{needs}
 use Rattle.rules.specs.declared.Judged.the-variants.{Fine}
-use Rattle.settling.specs.Toward.{rows}
+use Rattle.walks.specs.Rows.{rows}
 use Rattle.boxwork.specs.Says.{BuildSays}
 use Rattle.boxwork.specs.JudgeLaws.{Lent, build-fine}
 use Rattle.boxwork.proofs.Meaning.{heads-nodes, built-by}

@@ -2,7 +2,7 @@
 use mathlib.Core.Path.{_≡_, sym, _∙_}
 use borrow.Author.Needs.{needs}
 use Rattle.rules.specs.declared.Judged.the-variants.{Fine}
-use Rattle.settling.specs.Toward.{rows}
+use Rattle.walks.specs.Rows.{rows}
 use Rattle.boxwork.specs.Says.{CheckSays}
 use Rattle.boxwork.specs.JudgeLaws.{Lent, build-fine, check-fine}
 use Rattle.boxwork.proofs.Meaning.{missed-first, missed-none}

@@ -4,7 +4,7 @@ use mathlib.Core.Path.{_≡_, sym, _∙_}
 use native.Mathlib.Omega.{arith}
 use borrow.Author.Needs.{needs}
 use Rattle.rules.specs.declared.Judged.the-variants.{Fine}
-use Rattle.settling.specs.Toward.{rows}
+use Rattle.walks.specs.Rows.{rows}
 use Rattle.drawing.proofs.Steps.{first-arcs}
 use Rattle.boxwork.specs.Says.{UpdateSays, reweighted}
 use Rattle.boxwork.specs.JudgeLaws.{Lent, build-fine, check-fine, update-fine, lent-reweighted}

@@ -2,7 +2,7 @@
 use mathlib.Core.Path.{sym, _∙_}
 use borrow.Author.Needs.{needs}
 use lib.ListN.{length}
-use Rattle.settling.specs.Toward.{rows}
+use Rattle.walks.specs.Rows.{rows}
 use Rattle.search.specs.Says.{refused, answered}
 use Rattle.search.specs.JudgeLaws.{Lent, search-fine}
 use Rattle.search.specs.Networks.{answers-alike, all-arcs}

@@ -6,7 +6,7 @@ use borrow.Author.Needs.{needs}
 use lib.ListN.{length}
 use Rattle.geometry.proofs.Signed.{back}
 use Rattle.geometry.specs.Row.{coordinate}
-use Rattle.settling.specs.Toward.{rows}
+use Rattle.walks.specs.Rows.{rows}
 use Rattle.search.specs.Says.{refused, answered}
 use Rattle.search.specs.JudgeLaws.{Lent, boxed-fine}
 use Rattle.search.specs.Networks.{answers-alike, held-arcs}

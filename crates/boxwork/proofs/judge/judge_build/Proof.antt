@@ -1,7 +1,7 @@
 -- `boxwork::judge::judge_build` meets its contract: each refusal is handed on as it came. Assumes nothing.
 use mathlib.Core.Path.{_≡_, sym, _∙_}
 use borrow.Author.Needs.{needs}
-use Rattle.settling.specs.Toward.{rows}
+use Rattle.walks.specs.Rows.{rows}
 use Rattle.search.specs.Judge.{boxRowsLong, networkJudged}
 use Rattle.search.specs.JudgeLaws.{network-fine, long-boxes}
 use Rattle.search.proofs.Turns.{out, on}

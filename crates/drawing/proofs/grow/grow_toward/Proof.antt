@@ -5,8 +5,7 @@ use mathlib.Core.Logic.{⊎-elim}
 use native.Mathlib.Omega.{arith}
 use mir.Syntax.{w32}
 use mir.Val.{toZ}
-use Rattle.walks.specs.Rows.{arc-at}
-use Rattle.settling.specs.Toward.{rows}
+use Rattle.walks.specs.Rows.{rows, arc-at}
 use Rattle.geometry.proofs.Signed.{back}
 use Rattle.drawing.specs.Leads.{leadsAt}
 use Rattle.drawing.specs.Drawn.{Drawn}

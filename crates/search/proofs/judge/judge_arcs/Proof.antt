@@ -7,8 +7,7 @@ use borrow.Author.Tests.{not-true, not-false}
 use lib.ListN.{getD}
 use Rattle.rules.specs.Judging.{each-none, each-on, each-out}
 use Rattle.rules.specs.declared.Judged.the-variants.{Fine}
-use Rattle.walks.specs.Rows.{Rows, at}
-use Rattle.settling.specs.Toward.{rows}
+use Rattle.walks.specs.Rows.{Rows, rows, at}
 use Rattle.search.specs.Judge.{goodArc, arcs}
 use Rattle.search.proofs.judge.judge_arcs.Statement.{statement}
 use Rattle.search.proofs.judge.judge_arcs.Tie as tie

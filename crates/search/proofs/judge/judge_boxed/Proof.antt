@@ -7,7 +7,7 @@ use lib.ListN.{length}
 use lib.Dec.{leb}
 use Rattle.rules.specs.declared.Judged.the-variants.{Fine}
 use Rattle.settling.specs.Choice.{and-true}
-use Rattle.settling.specs.Toward.{rows}
+use Rattle.walks.specs.Rows.{rows}
 use Rattle.search.specs.Judge.{boxRowsLong, networkJudged}
 use Rattle.search.specs.JudgeLaws.{boxed-judged, network-fine, long-boxes}
 use Rattle.search.proofs.Turns.{out, on}

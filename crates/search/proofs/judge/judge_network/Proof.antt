@@ -6,7 +6,7 @@ use Rattle.rules.specs.Judging.{passes}
 use Rattle.rules.specs.declared.Judged.{Judged}
 use Rattle.rules.specs.declared.Refusal.the-variants.{RowTooShort}
 use Rattle.settling.specs.Choice.{and-true}
-use Rattle.settling.specs.Toward.{rows}
+use Rattle.walks.specs.Rows.{rows}
 use Rattle.search.specs.Judge.{arcRowsLong, networkJudged}
 use Rattle.search.specs.JudgeLaws.{last, passed, long-arcs}
 use Rattle.search.proofs.Turns.{out, on}

@@ -4,7 +4,7 @@ use native.Mathlib.Omega.{arith}
 use borrow.Author.Needs.{needs}
 use mathlib.Core.Path.{_≡_, refl, sym, _∙_}
 use mathlib.Core.Bool.{Bool, true, false}
-use Rattle.walks.specs.Rows.{Rows}
+use Rattle.walks.specs.Rows.{Rows, rows}
 use Rattle.settling.specs.declared.Labels.{Labels}
 use Rattle.settling.specs.declared.Outcome.{Outcome}
 use Rattle.settling.specs.declared.Pick.{Pick}
@@ -15,7 +15,7 @@ use Rattle.settling.specs.Run.{runOf, searchOf}
 use Rattle.settling.specs.RunLaws.{run-over, run-stuck, run-found, run-on}
 use Rattle.settling.specs.SettleIs.{Stage}
 use Rattle.settling.specs.RunIs.{ready, stage-start, stage-on}
-use Rattle.settling.specs.Toward.{rows, keeps}
+use Rattle.settling.specs.Toward.{keeps}
 use Rattle.settling.proofs.Widen.{widened}
 use Rattle.settling.proofs.run.run.Statement.{statement}
 use Rattle.settling.proofs.run.run.Tie as tie

@@ -5,13 +5,13 @@ use mathlib.Core.Path.{_≡_, sym, ap, _∙_}
 use mathlib.Core.Bool.{Bool, true, false}
 use mathlib.Core.Logic.{⊎-elim}
 use lib.ListN.{getD}
-use Rattle.walks.specs.Rows.{Rows, SoundArc, arc-at}
+use Rattle.walks.specs.Rows.{Rows, rows, SoundArc, arc-at}
 use Rattle.settling.specs.declared.Labels.{Labels}
 use Rattle.settling.specs.Labels.{lengthOf, arcsOf, before, labelled, marked}
 use Rattle.settling.specs.LabelsLaws.{offered-yes, offered-no}
 use Rattle.settling.specs.Settle.{arcStep, relaxed}
 use Rattle.settling.specs.SettleLaws.{relaxed-none, relaxed-next, step-other, step-shut, step-open, settle-all}
-use Rattle.settling.specs.Toward.{rows, keeps, room-less}
+use Rattle.settling.specs.Toward.{keeps, room-less}
 use Rattle.settling.proofs.settle.settle.Statement.{statement}
 use Rattle.settling.proofs.settle.settle.Tie as tie
 

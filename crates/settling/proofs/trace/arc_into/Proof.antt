@@ -4,10 +4,10 @@ use native.Mathlib.Omega.{arith}
 use mathlib.Core.Path.{sym, _∙_}
 use mathlib.Core.Logic.{⊎-elim}
 use lib.ListN.{getD}
-use Rattle.walks.specs.Rows.{SoundArc, arc-at}
+use Rattle.walks.specs.Rows.{rows, SoundArc, arc-at}
 use Rattle.settling.specs.Trace.{arcFits, intoOf}
 use Rattle.settling.specs.TraceLaws.{Rest, hit, miss, over, into-whole, arc-other, arc-shut, arc-fits}
-use Rattle.settling.specs.Toward.{rows, keeps, room-less}
+use Rattle.settling.specs.Toward.{keeps, room-less}
 use Rattle.settling.proofs.trace.arc_into.Statement.{statement}
 use Rattle.settling.proofs.trace.arc_into.Tie as tie
 

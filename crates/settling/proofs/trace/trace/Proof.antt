@@ -6,7 +6,8 @@ use mathlib.Core.Path.{_≡_, refl, sym, _∙_}
 use lib.ListN.{length, length-set}
 use Rattle.settling.specs.Trace.{traceOf}
 use Rattle.settling.specs.TraceLaws.{into-in, trace-over, trace-stuck, trace-on}
-use Rattle.settling.specs.Toward.{rows, keeps}
+use Rattle.walks.specs.Rows.{rows}
+use Rattle.settling.specs.Toward.{keeps}
 use Rattle.settling.proofs.trace.trace.Statement.{statement}
 use Rattle.settling.proofs.trace.trace.Tie as tie
 
