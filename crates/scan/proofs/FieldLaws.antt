@@ -3,7 +3,7 @@ use mathlib.Core.Path.{_≡_, refl, sym, ap, _∙_}
 use mathlib.Core.Logic.{_⊎_, ⊎-elim}
 use mathlib.Core.List.{List, [], _∷_}
 use mathlib.Core.Bool.{Bool, true, false, cond, _&&_}
-use Prim.Native.Nat.{ℕ, _+_, _-_, _≤_, _<_}
+use Prim.Native.Nat.{ℕ, _+_, _-_, _≤_, _<_, min}
 use native.Mathlib.Nat.{eq-or-lt-of-le}
 use native.Mathlib.Omega.{arith}
 use lib.Dec.{leb, ltb}
@@ -38,20 +38,30 @@ unfolding heldZ
 heldZ-heldZ (pos v) = ap pos (omega arith)
 heldZ-heldZ (negsuc v) = ap negsuc (omega arith)
 
-held-natural : (ns : Numbers) (n : Natural) → heldNumbers ns ≡ ns → takenNatural ns (heldNatural n) ≡ heldField (takenNatural ns n)
-unfolding takenNatural heldNatural heldField
-held-natural ns (Number v) h = ap (λ (m : Numbers). Taken (oneNatural m (held v))) (sym h)
-held-natural ns NoNumber h = refl
+held-natural : (ns : Numbers) (n : Natural) → heldField (takenNatural ns (heldNatural n)) ≡ heldField (takenNatural ns n)
+unfolding takenNatural heldNatural heldField held
+held-natural ns (Number v) = ap (λ (x : ℕ). Taken (oneNatural (heldNumbers ns) x)) (omega arith)
+held-natural ns NoNumber = refl
 
-held-integer : (ns : Numbers) (n : Integer) → heldNumbers ns ≡ ns → takenInteger ns (heldInteger n) ≡ heldField (takenInteger ns n)
-unfolding takenInteger heldInteger heldField
-held-integer ns (Whole z) h = ap (λ (m : Numbers). Taken (oneInteger m (heldZ z))) (sym h)
-held-integer ns NoWhole h = refl
+held-integer : (ns : Numbers) (n : Integer) → heldField (takenInteger ns (heldInteger n)) ≡ heldField (takenInteger ns n)
+unfolding takenInteger heldInteger heldField heldZ
+held-integer ns (Whole (pos v)) = ap (λ (x : ℕ). Taken (oneInteger (heldNumbers ns) (pos x))) (omega arith)
+held-integer ns (Whole (negsuc v)) = ap (λ (x : ℕ). Taken (oneInteger (heldNumbers ns) (negsuc x))) (omega arith)
+held-integer ns NoWhole = refl
 
-held-word : (ns : Numbers) (z : Bool) → heldNumbers ns ≡ ns → cond z (Taken ns) NotTaken ≡ heldField (cond z (Taken ns) NotTaken)
-unfolding heldField
-held-word ns true h = ap Taken (sym h)
-held-word ns false h = refl
+module _ (ns : Numbers) (h : heldNumbers ns ≡ ns) where
+  pub taken-integer : (n : Integer) (z w : ℤ) (more : Numbers) → n ≡ Whole z → w ≡ heldZ z → more ≡ oneInteger ns w → Taken more ≡ heldField (takenInteger ns n)
+  unfolding takenInteger heldField
+  taken-integer n z w more p q r = rw (p, r, q) (ap (λ (m : Numbers). Taken (oneInteger m (heldZ z))) (sym h))
+
+  pub taken-natural : (n : Natural) (v w : ℕ) (more : Numbers) → n ≡ Number v → w ≡ min v 10000000 → more ≡ oneNatural ns w → Taken more ≡ heldField (takenNatural ns n)
+  unfolding takenNatural heldField held
+  taken-natural n v w more p q r = rw (p, r, q) (ap (λ (m : Numbers). Taken (oneNatural m (min v 10000000))) (sym h))
+
+  held-word : (z : Bool) → cond z (Taken ns) NotTaken ≡ heldField (cond z (Taken ns) NotTaken)
+  unfolding heldField
+  held-word true = ap Taken (sym h)
+  held-word false = refl
 
 held-twice : (f : Field) → heldField (heldField f) ≡ heldField f
 unfolding heldField
@@ -65,18 +75,18 @@ taken-held NotTaken ns e q = absurd (let z : _≡_ {A = ℕ} 0 1 = cc in omega a
 
 -- ---- a field, where the form's field begins with the byte b
 
-module _ (form s : List ℕ) (ns : Numbers) (h : heldNumbers ns ≡ ns) (b : ℕ) (e : b ≡ getD form 0 0) where
-  pub field-integer : (n : Integer) (f : Field) → leb 65 b && leb b 90 ≡ true → 88 ≤ b → n ≡ heldInteger (integerOf s) → f ≡ takenInteger ns n → f ≡ heldField (taken form s ns)
+module _ (form s : List ℕ) (ns : Numbers) (b : ℕ) (e : b ≡ getD form 0 0) where
+  pub field-integer : (n : Integer) (f : Field) → leb 65 b && leb b 90 ≡ true → 88 ≤ b → n ≡ heldInteger (integerOf s) → f ≡ heldField (takenInteger ns n) → f ≡ heldField (taken form s ns)
   unfolding taken
-  field-integer n f t k p q = rw (q, p, ← e, t, le-leb 88 b k) (held-integer ns (integerOf s) h)
+  field-integer n f t k p q = rw (q, p, ← e, t, le-leb 88 b k) (held-integer ns (integerOf s))
 
-  pub field-natural : (n : Natural) (f : Field) → leb 65 b && leb b 90 ≡ true → b < 88 → n ≡ heldNatural (naturalOf s) → f ≡ takenNatural ns n → f ≡ heldField (taken form s ns)
+  pub field-natural : (n : Natural) (f : Field) → leb 65 b && leb b 90 ≡ true → b < 88 → n ≡ heldNatural (naturalOf s) → f ≡ heldField (takenNatural ns n) → f ≡ heldField (taken form s ns)
   unfolding taken
-  field-natural n f t k p q = rw (q, p, ← e, t, lt-leb 88 b k) (held-natural ns (naturalOf s) h)
+  field-natural n f t k p q = rw (q, p, ← e, t, lt-leb 88 b k) (held-natural ns (naturalOf s))
 
-  pub field-word : (z : Bool) → leb 65 b && leb b 90 ≡ false → sameBytes s form ≡ z → cond z (Taken ns) NotTaken ≡ heldField (taken form s ns)
+  pub field-word : heldNumbers ns ≡ ns → (z : Bool) → leb 65 b && leb b 90 ≡ false → sameBytes s form ≡ z → cond z (Taken ns) NotTaken ≡ heldField (taken form s ns)
   unfolding taken
-  field-word z t p = rw (← e, t, p) (held-word ns z h)
+  field-word h z t p = rw (← e, t, p) (held-word ns h z)
 
 -- ---- numbers that are held alike, among the fields before
 
