@@ -64,7 +64,7 @@ pub fn read_natural(s: &[u8]) -> Natural
     read_digits(s)
 }
 
-// The number that stands after no minus.
+// What n spells with no minus before it.
 fn without_minus(n: Natural) -> Integer
     requires { ⌜ heldNatural n ≡ n ⌝ }
     ensures { λ r. ⌜ r ≡ plain n ⌝ }
@@ -75,7 +75,7 @@ fn without_minus(n: Natural) -> Integer
     Integer::Whole(v as i64)
 }
 
-// The number that stands after a minus; `-0` is malformed.
+// What n spells after a minus; `-0` is malformed.
 fn with_minus(n: Natural) -> Integer
     requires { ⌜ heldNatural n ≡ n ⌝ }
     ensures { λ r. ⌜ r ≡ negated n ⌝ }
