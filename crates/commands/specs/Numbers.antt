@@ -1,5 +1,4 @@
 -- Numbers of 32 bits: the spelling of `scan`, with the true values, and then the limits of the type. Assumes nothing: these are definitions.
-use Prim.Native.Nat.{min}
 use mathlib.Core.Bool.{cond}
 use lib.Dec.{leb}
 use lib.IntN.{pos, negsuc}
@@ -12,8 +11,6 @@ use Rattle.commands.specs.declared.numbers.Count.{Count}
 use Rattle.commands.specs.declared.numbers.Count.the-variants as count
 use Rattle.commands.specs.declared.numbers.Signed.{Signed}
 use Rattle.commands.specs.declared.numbers.Signed.the-variants as signed
-use Rattle.commands.specs.declared.numbers.Spelt.{Spelt}
-use Rattle.commands.specs.declared.numbers.Spelt.the-variants.{Held, Unspelt}
 
 -- a number without sign: 0..4294967295
 unfoldable pub countOf : Natural → Count
@@ -25,8 +22,3 @@ unfoldable pub signedOf : Integer → Signed
 signedOf (Whole (pos v)) = cond (leb v 2147483647) (signed.Is (pos v)) (signed.Not BeyondType)
 signedOf (Whole (negsuc v)) = cond (leb v 2147483647) (signed.Is (negsuc v)) (signed.Not BeyondType)
 signedOf NoWhole = signed.Not Misspelt
-
--- how the code holds a number: what is beyond 10,000,000,000 is held as 10,000,000,000
-unfoldable pub heldNumber : Natural → Spelt
-heldNumber (Number v) = Held (min v 10000000000)
-heldNumber NoNumber = Unspelt

@@ -1,4 +1,5 @@
 mod FieldLaws
 mod LineLaws
+mod MatchingLaws
 pub mod NumberLaws
 pub mod PieceLaws

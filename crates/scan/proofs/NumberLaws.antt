@@ -1,21 +1,21 @@
 -- Laws of digits, of numbers as they are held, and of signs. Assumes nothing.
-use mathlib.Core.Path.{_≡_, refl}
+use mathlib.Core.Path.{_≡_, refl, ap}
 use mathlib.Core.List.{List, [], _∷_}
 use mathlib.Core.Bool.{Bool, true, false, cond, _&&_}
 use Prim.Native.Nat.{ℕ, zero, suc, _+_, _-_, _*_, _≤_, _<_, min}
 use native.Mathlib.Omega.{arith}
-use lib.IntN.{ℤ, pos, negℤ, _-ℤ_, +ℤ-idl}
+use lib.IntN.{ℤ, pos, negsuc, negℤ, _-ℤ_, +ℤ-idl}
+use lib.Signed.{ltZ}
 use lib.Dec.{leb}
 use lib.ListN.{length, getD, drop, drop-of-length-le}
-use mir.Syntax.{w32}
-use mir.Val.{SFits, toZ, ofZ}
+use mir.Syntax.{w32, w64}
+use mir.Val.{SFits, toZ}
 use mir.Facts.{toZ-pos}
-use borrow.Author.Tests.{eq-eqb, ne-eqb, le-leb, lt-leb}
+use borrow.Author.Tests.{ltb-true, ltb-false, eq-eqb, ne-eqb, le-leb, lt-leb}
 use Rattle.scan.specs.Numbers.{valueFrom, naturalOf, integerOf, plain, negated}
-use Rattle.scan.specs.Held.{held, heldZ, heldNatural, heldInteger}
+use Rattle.scan.specs.Held.{heldZ, heldNatural, heldInteger}
 use Rattle.scan.specs.declared.numbers.Natural.{Natural}
 use Rattle.scan.specs.declared.numbers.Natural.the-variants.{Number, NoNumber}
-use Rattle.scan.specs.declared.numbers.Integer.the-variants.{Whole, NoWhole}
 use Rattle.scan.proofs.PieceLaws.{at-cons}
 
 -- ---- digits
@@ -41,59 +41,69 @@ by-digit : (z : Bool) (p q : Natural) → heldNatural p ≡ heldNatural q → he
 by-digit true p q e = e
 by-digit false p q e = refl
 
-pub held-alike : (s : List ℕ) (x y : ℕ) → min x 10000000 ≡ min y 10000000 → heldNatural (valueFrom x s) ≡ heldNatural (valueFrom y s)
-unfolding valueFrom heldNatural held
+pub held-alike : (s : List ℕ) (x y : ℕ) → min x 10000000000 ≡ min y 10000000000 → heldNatural (valueFrom x s) ≡ heldNatural (valueFrom y s)
+unfolding valueFrom heldNatural
 held-alike [] x y e = rw e
 held-alike (b ∷ t) x y e =
     by-digit (leb 48 b && leb b 57) (valueFrom (10 * x + (b - 48)) t) (valueFrom (10 * y + (b - 48)) t)
     (held-alike t (10 * x + (b - 48)) (10 * y + (b - 48)) (omega arith))
 
--- a number is held at 10,000,000 at most
-abbrev Small : Natural → Type 0
-Small (Number v) = v ≤ 10000000
-Small NoNumber = Unit
+-- a number that is held stays as it is, and is 10,000,000,000 at most
+pub held-again : (n m : Natural) → n ≡ heldNatural m → heldNatural n ≡ n
+unfolding heldNatural
+held-again n (Number v) e = rw e (ap Number (omega arith))
+held-again n NoNumber e = rw e
 
-pub number-small : (n : Natural) (v : ℕ) → Number v ≡ heldNatural n → v ≤ 10000000
-unfolding heldNatural held
-number-small n v e = rw (← e) at (all n)
-  where
-    all : (n : Natural) → Small (heldNatural n)
-    all (Number x) = omega arith
-    all NoNumber = tt
+pub held-most : (n : Natural) (v : ℕ) → heldNatural n ≡ n → n ≡ Number v → v ≤ 10000000000
+unfolding heldNatural
+held-most n v h e =
+    let q = rw e at h in
+    let p : min v 10000000000 ≡ v = cc in
+    omega arith
 
 -- ---- signs
 
-pub plus-read : (v : ℕ) → v ≤ 10000000 → toZ w32 v ≡ pos v
-plus-read v h = toZ-pos w32 (omega arith)
+pub minus-read : (v : ℕ) → v ≤ 10000000000 → pos 0 -ℤ toZ w64 v ≡ negℤ (pos v)
+minus-read v h = rw (toZ-pos w64 {n = v} (omega arith)) (+ℤ-idl (negℤ (pos v)))
 
-pub minus-fits : (v : ℕ) → v ≤ 10000000 → SFits w32 (negℤ (pos v))
+pub minus-fits : (v : ℕ) → v ≤ 10000000000 → SFits w64 (negℤ (pos v))
 minus-fits zero h = record { sfits = omega arith }
 minus-fits (suc n) h = record { sfits = omega arith }
 
-pub minus-read : (z : ℤ) (v : ℕ) → z ≡ pos v → v ≤ 10000000 → pos 0 -ℤ toZ w32 (ofZ w32 z) ≡ negℤ (pos v)
-minus-read z v e h = rw (e, plus-read v h) (+ℤ-idl (negℤ (pos v)))
-
 -- the sign of a number that is held
-pub held-plain : (n : Natural) → plain (heldNatural n) ≡ heldInteger (plain n)
-unfolding plain heldNatural heldInteger heldZ held
+held-plain : (n : Natural) → plain (heldNatural n) ≡ heldInteger (plain n)
+unfolding plain heldNatural heldInteger
 held-plain (Number v) = refl
 held-plain NoNumber = refl
 
-pub held-negated : (n : Natural) → negated (heldNatural n) ≡ heldInteger (negated n)
-unfolding negated heldNatural heldInteger heldZ held
+held-negated : (n : Natural) → negated (heldNatural n) ≡ heldInteger (negated n)
+unfolding negated heldNatural heldInteger
 held-negated (Number zero) = refl
 held-negated (Number (suc u)) =
-    let e : min (suc u) 10000000 ≡ suc (min u 9999999) = omega arith in
-    rw (e, ne-eqb (suc (min u 9999999)) 0 (λ z. omega arith), ne-eqb (suc u) 0 (λ z. omega arith))
+    let e : min (suc u) 10000000000 ≡ suc (min u 9999999999) = omega arith in
+    rw (e, ne-eqb (suc (min u 9999999999)) 0 (λ z. omega arith), ne-eqb (suc u) 0 (λ z. omega arith))
 held-negated NoNumber = refl
 
-pub negated-zero : (v : ℕ) → v ≡ 0 → negated (Number v) ≡ NoWhole
-unfolding negated
-negated-zero v e = rw (eq-eqb v 0 e)
+-- ---- a number of 64 bits that is narrowed to 32, by the tests of its limits
 
-pub negated-some : (v : ℕ) → (v ≡ 0 → ⊥) → negated (Number v) ≡ Whole (negℤ (pos v))
-unfolding negated
-negated-some v e = rw (ne-eqb v 0 e)
+pub narrow-fits : (low high : ℕ) → low < 2147483648 → high < 2147483648 → (z : ℤ) → ltZ z (negsuc low) ≡ false → ltZ (pos high) z ≡ false → SFits w32 z
+narrow-fits low high l h (pos v) e f = record { sfits = omega (arith, ltb-false high v f) }
+narrow-fits low high l h (negsuc v) e f = record { sfits = omega (arith, ltb-false low v e) }
+
+pub held-low : (z : ℤ) → ltZ z (negsuc 9999999) ≡ true → negsuc 9999999 ≡ heldZ z
+unfolding heldZ
+held-low (pos v) e = cc
+held-low (negsuc v) e = ap negsuc (omega (arith, ltb-true 9999999 v e))
+
+pub held-high : (z : ℤ) → ltZ (pos 10000000) z ≡ true → pos 10000000 ≡ heldZ z
+unfolding heldZ
+held-high (pos v) e = ap pos (omega (arith, ltb-true 10000000 v e))
+held-high (negsuc v) e = cc
+
+pub held-in : (z : ℤ) → ltZ z (negsuc 9999999) ≡ false → ltZ (pos 10000000) z ≡ false → z ≡ heldZ z
+unfolding heldZ
+held-in (pos v) e f = ap pos (omega (arith, ltb-false 10000000 v f))
+held-in (negsuc v) e f = ap negsuc (omega (arith, ltb-false 9999999 v e))
 
 -- ---- a number without sign, by its first byte b
 

@@ -1,5 +1,5 @@
--- How the code holds numbers: what is beyond 10,000,000 is held as 10,000,000. No public statement cites this;
--- two lines that are held alike are judged alike (dimacs). Assumes nothing: these are definitions.
+-- How the code holds numbers that are too large for it. No public statement cites this: two lines that are held alike
+-- are judged alike (dimacs), and so are two words of a command (commands). Assumes nothing: these are definitions.
 use Prim.Native.Nat.{ℕ, min}
 use lib.IntN.{ℤ, pos, negsuc}
 use Rattle.scan.specs.declared.numbers.Natural.{Natural}
@@ -14,20 +14,25 @@ use Rattle.scan.specs.declared.fields.Fields.the-variants.{Read, Unread}
 use Rattle.scan.specs.declared.line.Line.{Line}
 use Rattle.scan.specs.declared.line.Line.the-variants.{Comment, Problem, Data, Faulty}
 
+-- ---- a number as it is read: 10,000,000,000 at most, so that every number of 32 bits keeps its value
+
+unfoldable pub heldNatural : Natural → Natural
+heldNatural (Number v) = Number (min v 10_000_000_000)
+heldNatural NoNumber = NoNumber
+
+unfoldable pub heldInteger : Integer → Integer
+heldInteger (Whole (pos v)) = Whole (pos (min v 10_000_000_000))
+heldInteger (Whole (negsuc v)) = Whole (negsuc (min v 9_999_999_999))
+heldInteger NoWhole = NoWhole
+
+-- ---- a number of a line: 10,000,000 at most
+
 unfoldable pub held : ℕ → ℕ
 held v = min v 10_000_000
 
 unfoldable pub heldZ : ℤ → ℤ
 heldZ (pos v) = pos (min v 10_000_000)
 heldZ (negsuc v) = negsuc (min v 9_999_999)
-
-unfoldable pub heldNatural : Natural → Natural
-heldNatural (Number v) = Number (held v)
-heldNatural NoNumber = NoNumber
-
-unfoldable pub heldInteger : Integer → Integer
-heldInteger (Whole z) = Whole (heldZ z)
-heldInteger NoWhole = NoWhole
 
 abbrev pub heldNumbers : Numbers → Numbers
 heldNumbers ns = record { first = held (ns .first); second = held (ns .second); third = held (ns .third); x = heldZ (ns .x); y = heldZ (ns .y) }

@@ -9,11 +9,13 @@ use crate::pieces::front;
 use crate::pieces::rest;
 use crate::pieces::same_bytes;
 ghost use mathlib.Core.Path.{_≡_};
+ghost use Prim.Native.Nat.{min};
 ghost use Rattle.scan.specs.Pieces.{fieldsOf};
 ghost use Rattle.scan.specs.Fields.{none, oneNatural, oneInteger, taken, matched};
-ghost use Rattle.scan.specs.Held.{heldNumbers, heldField, heldFields};
+ghost use Rattle.scan.specs.Held.{heldZ, heldNumbers, heldField, heldFields};
 
 // The numbers of a line, the last three without sign and the last two that may have a minus; 0 where there are fewer.
+// What is beyond 10,000,000 is held as 10,000,000: every limit of a format is far below.
 pub struct Numbers {
     pub first: u32,
     pub second: u32,
@@ -62,6 +64,29 @@ pub fn no_numbers() -> Numbers
     }
 }
 
+// A number without sign, as a line holds it.
+fn hold_natural(v: u64) -> u32
+    ensures { λ r. ⌜ r ≡ min v 10000000 ⌝ }
+{
+    if 10000000 < v {
+        return 10000000;
+    }
+    v as u32
+}
+
+// A number that may have a minus, as a line holds it.
+fn hold_integer(z: i64) -> i32
+    ensures { λ r. ⌜ r ≡ heldZ z ⌝ }
+{
+    if z < -10000000 {
+        return -10000000;
+    }
+    if 10000000 < z {
+        return 10000000;
+    }
+    z as i32
+}
+
 // One number more, without sign.
 fn add_natural(ns: Numbers, v: u32) -> Numbers
     ensures { λ r. ⌜ r ≡ oneNatural ns v ⌝ }
@@ -100,13 +125,13 @@ fn take_field(form: &[u8], s: &[u8], ns: Numbers) -> Field
             let Integer::Whole(w) = z else {
                 return Field::NotTaken;
             };
-            return Field::Taken(add_integer(ns, w));
+            return Field::Taken(add_integer(ns, hold_integer(w)));
         }
         let n = read_natural(s);
         let Natural::Number(v) = n else {
             return Field::NotTaken;
         };
-        return Field::Taken(add_natural(ns, v));
+        return Field::Taken(add_natural(ns, hold_natural(v)));
     }
     if same_bytes(s, form) {
         return Field::Taken(ns);

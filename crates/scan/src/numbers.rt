@@ -1,38 +1,37 @@
-// Decimal numbers of any count of digits. What is beyond 10,000,000 is held as 10,000,000: every limit is far below.
+// Decimal numbers of any count of digits. What is beyond 10,000,000,000 is held as 10,000,000,000: every number of 32 bits is below.
 use crate::pieces::first_byte;
 use crate::pieces::rest;
 ghost use mathlib.Core.Path.{_≡_};
 ghost use Prim.Native.Nat.{_+_, _-_, _*_, _≤_, min};
-ghost use lib.IntN.{pos, negℤ};
-ghost use Rattle.scan.specs.Numbers.{valueFrom, naturalOf, integerOf};
+ghost use Rattle.scan.specs.Numbers.{valueFrom, naturalOf, plain, negated, integerOf};
 ghost use Rattle.scan.specs.Held.{heldNatural, heldInteger};
 
 // What a field without sign spells.
 pub enum Natural {
-    Number(u32),
+    Number(u64),
     NoNumber,
 }
 
 // What a field that may have a minus spells.
 pub enum Integer {
-    Whole(i32),
+    Whole(i64),
     NoWhole,
 }
 
 // A digit more.
-fn longer(v: u32, b: u8) -> u32
-    requires { ⌜ (v ≤ 10000000) × (48 ≤ b) × (b ≤ 57) ⌝ }
-    ensures { λ r. ⌜ r ≡ min (10 * v + (b - 48)) 10000000 ⌝ }
+fn longer(v: u64, b: u8) -> u64
+    requires { ⌜ (v ≤ 10000000000) × (48 ≤ b) × (b ≤ 57) ⌝ }
+    ensures { λ r. ⌜ r ≡ min (10 * v + (b - 48)) 10000000000 ⌝ }
 {
-    let w = 10 * v + (b as u32 - 48);
-    if w <= 10000000 { w } else { 10000000 }
+    let w = 10 * v + (b as u64 - 48);
+    if w <= 10000000000 { w } else { 10000000000 }
 }
 
 // The number that digits spell.
 fn read_digits(s: &[u8]) -> Natural
     ensures { λ r. ⌜ r ≡ heldNatural (valueFrom 0 (now (s .entry))) ⌝ }
 {
-    let mut v: u32 = 0;
+    let mut v: u64 = 0;
     let mut i = 0;
     while i < s.len() {
         let b = s[i];
@@ -65,37 +64,37 @@ pub fn read_natural(s: &[u8]) -> Natural
     read_digits(s)
 }
 
-fn plus(v: u32) -> i32
-    requires { ⌜ v ≤ 10000000 ⌝ }
-    ensures { λ r. ⌜ r ≡ pos v ⌝ }
+// What n spells with no minus before it.
+fn without_minus(n: Natural) -> Integer
+    requires { ⌜ heldNatural n ≡ n ⌝ }
+    ensures { λ r. ⌜ r ≡ plain n ⌝ }
 {
-    v as i32
+    let Natural::Number(v) = n else {
+        return Integer::NoWhole;
+    };
+    Integer::Whole(v as i64)
 }
 
-fn minus(v: u32) -> i32
-    requires { ⌜ v ≤ 10000000 ⌝ }
-    ensures { λ r. ⌜ r ≡ negℤ (pos v) ⌝ }
+// What n spells after a minus; `-0` is malformed.
+fn with_minus(n: Natural) -> Integer
+    requires { ⌜ heldNatural n ≡ n ⌝ }
+    ensures { λ r. ⌜ r ≡ negated n ⌝ }
 {
-    0 - plus(v)
+    let Natural::Number(v) = n else {
+        return Integer::NoWhole;
+    };
+    if v == 0 {
+        return Integer::NoWhole;
+    }
+    Integer::Whole(-(v as i64))
 }
 
-// A number with one leading minus or none; `-0` is malformed.
+// A number with one leading minus or none.
 pub fn read_integer(s: &[u8]) -> Integer
     ensures { λ r. ⌜ r ≡ heldInteger (integerOf (now (s .entry))) ⌝ }
 {
     if first_byte(s) == b'-' {
-        let a = read_natural(rest(s, 1));
-        let Natural::Number(v) = a else {
-            return Integer::NoWhole;
-        };
-        if v == 0 {
-            return Integer::NoWhole;
-        }
-        return Integer::Whole(minus(v));
+        return with_minus(read_natural(rest(s, 1)));
     }
-    let b = read_natural(s);
-    let Natural::Number(w) = b else {
-        return Integer::NoWhole;
-    };
-    Integer::Whole(plus(w))
+    without_minus(read_natural(s))
 }

@@ -1,32 +1,34 @@
 -- `commands::numbers::read_count` meets its contract. Assumes nothing.
-use mathlib.Core.Path.{sym, _∙_}
-use Rattle.commands.proofs.NumberLaws.{count-none, count-high, count-is}
+use mathlib.Core.Path.{sym, ap, _∙_}
+use Rattle.commands.specs.Numbers.{countOf}
+use Rattle.commands.proofs.NumberLaws.{count-held, count-high, count-in}
 use borrow.Author.Needs.{needs}
 use Rattle.commands.proofs.numbers.read_count.Statement.{statement}
 use Rattle.commands.proofs.numbers.read_count.Tie as tie
 
-read-spelt-requires : tie.Need-read-spelt-requires
-read-spelt-requires c κs = search needs
+read-natural-requires : tie.Need-read-natural-requires
+read-natural-requires c κs = search needs
 
-enum-known-a : tie.Need-enum-known-a
-enum-known-a c = search needs
+enum-known-n : tie.Need-enum-known-n
+enum-known-n c = search needs
 
 enum-told : tie.Need-enum-told
 enum-told c = search needs
 
 returns : tie.Need-returns
-returns c = count-none _ (sym (c .enum-told .given .1) ∙ c .before .before .read-spelt .ensures)
+unfolding countOf
+returns c = ap countOf (sym (c .enum-told .given .1)) ∙ count-held _ _ (c .before .before .read-natural .ensures)
 
 returns-2 : tie.Need-returns-2
-returns-2 c = count-high _ _ (sym (c .before .before .a .given .1) ∙ c .before .before .before .before .read-spelt .ensures) (c .if1 .taken)
+returns-2 c = count-high _ (c .if1 .taken) ∙ ap countOf (sym (c .before .before .n .given .1)) ∙ count-held _ _ (c .before .before .before .before .read-natural .ensures)
 
 cast-t7 : tie.Need-cast-t7
 cast-t7 c = search needs
 
 returns-3 : tie.Need-returns-3
-returns-3 c = count-is _ _ (sym (c .before .before .a .given .1) ∙ c .before .before .before .before .read-spelt .ensures) (c .if1 .left)
+returns-3 c = count-in _ (c .if1 .left) ∙ ap countOf (sym (c .before .before .n .given .1)) ∙ count-held _ _ (c .before .before .before .before .read-natural .ensures)
 
 pub read-count-spec : {M : Type 1} → statement M
 read-count-spec =
     tie.close
-    (tie.spec read-spelt-requires enum-known-a enum-told returns returns-2 cast-t7 returns-3)
+    (tie.spec read-natural-requires enum-known-n enum-told returns returns-2 cast-t7 returns-3)

@@ -3,7 +3,7 @@ use native.Mathlib.Omega.{arith}
 use lib.ListN.{length}
 use borrow.Author.Needs.{needs}
 use Rattle.scan.proofs.PieceLaws.{rest-long}
-use Rattle.scan.proofs.FieldLaws.{Matching, Step, matching-start, field-bad, field-last, field-extra, field-missing, field-more}
+use Rattle.scan.proofs.MatchingLaws.{Matching, Step, matching-start, field-bad, field-last, field-extra, field-missing, field-more}
 use Rattle.scan.proofs.fields.read_fields.Statement.{statement}
 use Rattle.scan.proofs.fields.read_fields.Tie as tie
 

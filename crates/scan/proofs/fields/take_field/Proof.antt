@@ -1,10 +1,12 @@
-use mir.Syntax.{w32}
+use mir.Syntax.{w64}
 use mir.Val.{toZ, ofZ}
+use mir.Facts.{toZ-ofZ}
+use borrow.Author.Needs.{sfits-of}
 use mathlib.Core.Path.{_≡_, sym, ap, _∙_}
 use mathlib.Core.Bool.{true, false}
-use Rattle.scan.specs.Fields.{takenInteger, takenNatural, oneInteger}
-use Rattle.scan.specs.declared.fields.Field.the-variants.{Taken}
-use Rattle.scan.proofs.FieldLaws.{field-integer, field-natural, field-word}
+use Rattle.scan.specs.Fields.{takenInteger, takenNatural}
+use Rattle.scan.specs.Held.{heldZ, heldField}
+use Rattle.scan.proofs.FieldLaws.{field-integer, field-natural, field-word, taken-integer, taken-natural}
 use borrow.Author.Needs.{needs}
 use Rattle.scan.proofs.fields.take_field.Statement.{statement}
 use Rattle.scan.proofs.fields.take_field.Tie as tie
@@ -22,21 +24,23 @@ enum-told : tie.Need-enum-told
 enum-told c = search needs
 
 returns : tie.Need-returns
-unfolding takenInteger
+unfolding takenInteger heldField
 returns c =
-    field-integer (c .before .before .before .before .before .before .before .before .args .form .now) _ _ (c .before .before .before .before .before .before .before .before .pre) _ (c .before .before .before .before .before .first-byte .ensures) _ _ (c .before .before .before .before .if1 .taken) (c .before .before .before .if2 .taken) (c .before .before .read-integer .ensures) (ap (takenInteger _) (sym (c .enum-told .given .1)))
+    field-integer (c .before .before .before .before .before .before .before .before .args .form .now) _ _ _ (c .before .before .before .before .before .first-byte .ensures) _ _ (c .before .before .before .before .if1 .taken) (c .before .before .before .if2 .taken) (c .before .before .read-integer .ensures)
+    (rw (c .enum-told .given .1))
+
+hold-integer-requires : tie.Need-hold-integer-requires
+hold-integer-requires c κs = search needs
 
 add-integer-requires : tie.Need-add-integer-requires
 add-integer-requires c κs = search needs
 
 returns-2 : tie.Need-returns-2
-unfolding takenInteger
 returns-2 c =
-    let ns = c .before .before .before .before .before .before .before .before .before .before .args .ns in
-    let w = c .before .before .z .given .0 .0 in
-    let same : toZ w32 (ofZ w32 w) ≡ w = search needs in
-    field-integer (c .before .before .before .before .before .before .before .before .before .before .args .form .now) _ _ (c .before .before .before .before .before .before .before .before .before .before .pre) _ (c .before .before .before .before .before .before .before .first-byte .ensures) _ _ (c .before .before .before .before .before .before .if1 .taken) (c .before .before .before .before .before .if2 .taken) (c .before .before .before .before .read-integer .ensures)
-    (ap Taken (c .add-integer .ensures ∙ ap (oneInteger ns) same) ∙ ap (takenInteger ns) (sym (c .before .before .z .given .1)))
+    let w = c .before .before .before .z .given .0 .0 in
+    let same : toZ w64 (ofZ w64 w) ≡ w = search needs in
+    field-integer (c .before .before .before .before .before .before .before .before .before .before .before .args .form .now) _ _ _ (c .before .before .before .before .before .before .before .before .first-byte .ensures) _ _ (c .before .before .before .before .before .before .before .if1 .taken) (c .before .before .before .before .before .before .if2 .taken) (c .before .before .before .before .before .read-integer .ensures)
+    (taken-integer _ (c .before .before .before .before .before .before .before .before .before .before .before .pre) _ _ _ _ (c .before .before .before .z .given .1) (toZ-ofZ (sfits-of (c .before .hold-integer .ok)) ∙ c .before .hold-integer .ensures ∙ ap heldZ same) (c .add-integer .ensures))
 
 read-natural-requires : tie.Need-read-natural-requires
 read-natural-requires c κs = search needs
@@ -48,28 +52,32 @@ enum-told-2 : tie.Need-enum-told-2
 enum-told-2 c = search needs
 
 returns-3 : tie.Need-returns-3
-unfolding takenNatural
+unfolding takenNatural heldField
 returns-3 c =
-    field-natural (c .before .before .before .before .before .before .before .before .args .form .now) _ _ (c .before .before .before .before .before .before .before .before .pre) _ (c .before .before .before .before .before .first-byte .ensures) _ _ (c .before .before .before .before .if1 .taken) (c .before .before .before .if2 .left) (c .before .before .read-natural .ensures) (ap (takenNatural _) (sym (c .enum-told2 .given .1)))
+    field-natural (c .before .before .before .before .before .before .before .before .args .form .now) _ _ _ (c .before .before .before .before .before .first-byte .ensures) _ _ (c .before .before .before .before .if1 .taken) (c .before .before .before .if2 .left) (c .before .before .read-natural .ensures)
+    (rw (c .enum-told2 .given .1))
+
+hold-natural-requires : tie.Need-hold-natural-requires
+hold-natural-requires c κs = search needs
 
 add-natural-requires : tie.Need-add-natural-requires
 add-natural-requires c κs = search needs
 
 returns-4 : tie.Need-returns-4
-unfolding takenNatural
 returns-4 c =
-    field-natural (c .before .before .before .before .before .before .before .before .before .before .args .form .now) _ _ (c .before .before .before .before .before .before .before .before .before .before .pre) _ (c .before .before .before .before .before .before .before .first-byte .ensures) _ _ (c .before .before .before .before .before .before .if1 .taken) (c .before .before .before .before .before .if2 .left) (c .before .before .before .before .read-natural .ensures) (ap Taken (c .add-natural .ensures) ∙ ap (takenNatural _) (sym (c .before .before .n .given .1)))
+    field-natural (c .before .before .before .before .before .before .before .before .before .before .before .args .form .now) _ _ _ (c .before .before .before .before .before .before .before .before .first-byte .ensures) _ _ (c .before .before .before .before .before .before .before .if1 .taken) (c .before .before .before .before .before .before .if2 .left) (c .before .before .before .before .before .read-natural .ensures)
+    (taken-natural _ (c .before .before .before .before .before .before .before .before .before .before .before .pre) _ _ _ _ (c .before .before .before .n .given .1) (c .before .hold-natural .ensures) (c .add-natural .ensures))
 
 same-bytes-requires : tie.Need-same-bytes-requires
 same-bytes-requires c κs = search needs
 
 returns-5 : tie.Need-returns-5
 returns-5 c =
-    field-word (c .before .before .before .before .before .before .args .form .now) _ _ (c .before .before .before .before .before .before .pre) _ (c .before .before .before .first-byte .ensures) true (c .before .before .if1 .left) (sym (c .before .same-bytes .ensures) ∙ c .if3 .taken)
+    field-word (c .before .before .before .before .before .before .args .form .now) _ _ _ (c .before .before .before .first-byte .ensures) (c .before .before .before .before .before .before .pre) true (c .before .before .if1 .left) (sym (c .before .same-bytes .ensures) ∙ c .if3 .taken)
 
 returns-6 : tie.Need-returns-6
 returns-6 c =
-    field-word (c .before .before .before .before .before .before .args .form .now) _ _ (c .before .before .before .before .before .before .pre) _ (c .before .before .before .first-byte .ensures) false (c .before .before .if1 .left) (sym (c .before .same-bytes .ensures) ∙ c .if3 .left)
+    field-word (c .before .before .before .before .before .before .args .form .now) _ _ _ (c .before .before .before .first-byte .ensures) (c .before .before .before .before .before .before .pre) false (c .before .before .if1 .left) (sym (c .before .same-bytes .ensures) ∙ c .if3 .left)
 
 pub take-field-spec : {M : Type 1} → statement M
 take-field-spec =
@@ -80,12 +88,14 @@ take-field-spec =
     enum-known-z
     enum-told
     returns
+    hold-integer-requires
     add-integer-requires
     returns-2
     read-natural-requires
     enum-known-n
     enum-told-2
     returns-3
+    hold-natural-requires
     add-natural-requires
     returns-4
     same-bytes-requires

@@ -4,14 +4,14 @@ use mathlib.Core.Path.{_≡_, _∙_, ap}
 use native.Mathlib.Omega.{arith}
 use lib.ListN.{length, drop}
 use Rattle.scan.specs.Numbers.{valueFrom}
-use Rattle.scan.specs.Held.{held, heldNatural}
+use Rattle.scan.specs.Held.{heldNatural}
 use Rattle.scan.proofs.NumberLaws.{digits-low, digits-high, digits-more, digits-end, held-alike}
 use borrow.Author.Needs.{needs}
 use Rattle.scan.proofs.numbers.read_digits.Statement.{statement}
 use Rattle.scan.proofs.numbers.read_digits.Tie as tie
 
 abbrev Inv-loop : tie.InvT-loop
-Inv-loop s v₀ i₀ v i = (i ≤ length s) × ((v ≤ 10000000) × (heldNatural (valueFrom 0 s) ≡ heldNatural (valueFrom v (drop i s))))
+Inv-loop s v₀ i₀ v i = (i ≤ length s) × ((v ≤ 10000000000) × (heldNatural (valueFrom 0 s) ≡ heldNatural (valueFrom v (drop i s))))
 
 abbrev μ-loop : tie.MeasureT-loop
 μ-loop s v₀ i₀ v i = length s - i
@@ -23,11 +23,11 @@ shared-slice-read-b : tie.Need-shared-slice-read-b Inv-loop μ-loop
 shared-slice-read-b c = search needs
 
 returns : tie.Need-returns Inv-loop μ-loop
-unfolding heldNatural held
+unfolding heldNatural
 returns c = rw (c .before .before .before .loop .inv .1 .1, digits-low _ _ _ (c .before .before .loop-test .taken) (c .if1 .taken))
 
 returns-2 : tie.Need-returns-2 Inv-loop μ-loop
-unfolding heldNatural held
+unfolding heldNatural
 returns-2 c = rw (c .before .before .before .before .loop .inv .1 .1, digits-high _ _ _ (c .before .before .before .loop-test .taken) (c .before .if1 .left) (c .if2 .taken))
 
 longer-requires : tie.Need-longer-requires Inv-loop μ-loop
@@ -51,7 +51,7 @@ loop-again c =
     )
 
 returns-3 : tie.Need-returns-3 Inv-loop μ-loop
-unfolding heldNatural held
+unfolding heldNatural
 returns-3 c = rw (c .before .loop .inv .1 .1, digits-end _ _ _ (c .loop-test .left)) (ap Number (omega arith))
 
 pub read-digits-spec : {M : Type 1} → statement M
