@@ -52,6 +52,16 @@ pub fn put_after(page: &mut [u8; PAGE], at: usize, bytes: &[u8], n: u32) -> usiz
     put_count(page, end, n)
 }
 
+// Puts a number between two texts.
+pub fn put_between(page: &mut [u8; PAGE], at: usize, before: &[u8], n: u32, after: &[u8]) -> usize
+    requires { ⌜ at + length (now before) + 20 + length (now after) ≤ 368640 ⌝ }
+    ensures { λ r. ⌜ Puts (now (before .entry) ++ decimal n ++ now (after .entry)) at (now (page .entry)) r (now (page .exit)) ⌝ }
+    ensures { λ r. ⌜ r ≤ at + length (now (before .entry)) + 20 + length (now (after .entry)) ⌝ }
+{
+    let end = put_after(page, at, before, n);
+    put(page, end, after)
+}
+
 // The size of a number, without its sign.
 pub fn size(z: i32) -> u64
     ensures { λ r. ⌜ r ≡ natAbs z ⌝ }

@@ -1,13 +1,11 @@
 // Refusals as the programs print them.
 ghost use Prim.Native.Nat.{_+_, _≤_};
-ghost use mathlib.Core.List.{_++_};
-ghost use lib.ListN.{length};
 ghost use Rattle.files.specs.Page.{Puts};
-ghost use Rattle.files.specs.Decimal.{decimal};
 ghost use Rattle.files.specs.Refusals.{placeLine, valuesText, wordsText, refusalLine, noFileLine};
 use crate::page::PAGE;
 use crate::page::put;
 use crate::page::put_after;
+use crate::page::put_between;
 use crate::page::put_count;
 use rules::Refusal;
 
@@ -20,16 +18,6 @@ pub fn put_place(page: &mut [u8; PAGE], at: usize, why: Refusal) -> usize
     let a = put_after(page, at, b"refused ", why.number());
     let b = put_after(page, a, b" ", why.place());
     put(page, b, b"\n")
-}
-
-// A number between two texts.
-fn put_between(page: &mut [u8; PAGE], at: usize, before: &[u8], n: u32, after: &[u8]) -> usize
-    requires { ⌜ (at ≤ 1000) × (length (now before) ≤ 100) × (length (now after) ≤ 100) ⌝ }
-    ensures { λ r. ⌜ Puts (now (before .entry) ++ decimal n ++ now (after .entry)) at (now (page .entry)) r (now (page .exit)) ⌝ }
-    ensures { λ r. ⌜ r ≤ at + 220 ⌝ }
-{
-    let end = put_after(page, at, before, n);
-    put(page, end, after)
 }
 
 // The refusal's values, each after a space.

@@ -1,9 +1,9 @@
--- `files::refusals::put_between` meets its contract. Assumes nothing.
+-- `files::page::put_between` meets its contract. Assumes nothing.
 use native.Mathlib.Omega.{arith}
 use borrow.Author.Needs.{needs}
 use Rattle.files.proofs.PageLaws.{puts-both}
-use Rattle.files.proofs.refusals.put_between.Statement.{statement}
-use Rattle.files.proofs.refusals.put_between.Tie as tie
+use Rattle.files.proofs.page.put_between.Statement.{statement}
+use Rattle.files.proofs.page.put_between.Tie as tie
 
 put-after-requires : tie.Need-put-after-requires
 put-after-requires c κs = search needs
