@@ -2,13 +2,13 @@
 ghost use Prim.Native.Nat.{_≤_};
 use dimacs::CoReply;
 use dimacs::GrReply;
-use files::listing::put_listing;
 use files::page::PAGE;
 use files::page::put;
 use files::print::out;
 use files::reading::File;
 use files::reading::read_file;
 use files::refusals::put_place;
+use listing::put_listing;
 use rules::Judged;
 use rules::Refusal;
 

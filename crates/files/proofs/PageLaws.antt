@@ -1,6 +1,8 @@
 -- Laws of texts that are put on a page. Assumes nothing.
 use Prim.Native.Nat.{ℕ, suc, _+_, _-_, _≤_, _<_}
-use mathlib.Core.Path.{_≡_, refl, sym, subst, _∙_}
+use Prim.Native.Char.{code}
+use mathlib.Core.Path.{_≡_, refl, sym, ap, subst, _∙_}
+use mathlib.Core.Bool.{Bool, true, false, cond}
 use mathlib.Core.List.{List, [], _∷_, _++_, append-assoc, append-nil}
 use native.Mathlib.Omega.{arith}
 use native.Mathlib.Nat.{add-zero}
@@ -18,6 +20,17 @@ written-both (c ∷ a) b page at = let e : at + 1 + length a ≡ at + suc (lengt
 pub puts-same : {a b : List ℕ} {at r : ℕ} {p q : List ℕ} → a ≡ b → Puts a at p r q → Puts b at p r q
 puts-same {a} {b} {at} {r} {p} {q} e x = subst (λ (l : List ℕ). Puts l at p r q) e x
 
+-- the text of a value, once its case is known
+pub puts-case : {A : Type 0} (text : A → List ℕ) {a case : A} {at r : ℕ} {p q : List ℕ} → a ≡ case → Puts (text case) at p r q → Puts (text a) at p r q
+puts-case text e x = puts-same (ap text (sym e)) x
+
+-- a choice of texts, once its test is known
+pub puts-if : {t : Bool} {a : List ℕ} (b : List ℕ) {at r : ℕ} {p q : List ℕ} → t ≡ true → Puts a at p r q → Puts (cond t a b) at p r q
+puts-if {t} {a} b e x = puts-same (simp e) x
+
+pub puts-else : {t : Bool} (a : List ℕ) {b : List ℕ} {at r : ℕ} {p q : List ℕ} → t ≡ false → Puts b at p r q → Puts (cond t a b) at p r q
+puts-else {t} a {b} e x = puts-same (simp e) x
+
 pub puts-none : {at : ℕ} {p : List ℕ} → Puts [] at p at p
 unfolding written
 puts-none {at} {p} = record { end = sym (add-zero at); page = refl }
@@ -27,6 +40,10 @@ puts-both {a} {b} {at} {r} {s} {p} {q} {t} x y = record {
   end = simp length-append (omega (arith, x .end, y .end));
   page = y .page ∙ rw (x .page, x .end) (sym (written-both a b p at));
 }
+
+-- the same where the second text begins with a space
+pub puts-on : {a b : List ℕ} {at r s : ℕ} {p q t : List ℕ} → Puts a at p r q → Puts (code " " ∷ b) r q s t → Puts (a ++ (code " " ∷ []) ++ b) at p s t
+puts-on {a} {b} x y = puts-same (sym (append-assoc a (code " " ∷ []) b)) (puts-both x y)
 
 -- one byte more
 pub puts-more : (bytes : List ℕ) (at i : ℕ) (p q : List ℕ) → i < length bytes → Puts (take i bytes) at p (at + i) q → Puts (take (i + 1) bytes) at p (at + (i + 1)) (set q (at + i) (getD bytes i 0))

@@ -1,4 +1,4 @@
 pub mod Page
 pub mod Decimal
 pub mod File
-pub mod Listing
+pub mod Refusals

@@ -1,5 +1,4 @@
 // What the programs share: reading a file, and the texts that they print.
-pub mod listing;
 pub mod page;
 pub mod print;
 pub mod reading;

@@ -1,5 +1,6 @@
 // A page: the bytes that a program puts together before it writes them out at once.
 ghost use mathlib.Core.Path.{_≡_};
+ghost use mathlib.Core.List.{_++_};
 ghost use Prim.Native.Nat.{_+_, _≤_};
 ghost use lib.ListN.{length};
 ghost use lib.IntN.{natAbs};
@@ -39,6 +40,26 @@ pub fn put_count(page: &mut [u8; PAGE], at: usize, n: u32) -> usize
     ensures { λ r. ⌜ r ≤ at + 20 ⌝ }
 {
     put_decimal(page, at, n as u64)
+}
+
+// Puts bytes, and a number after them.
+pub fn put_after(page: &mut [u8; PAGE], at: usize, bytes: &[u8], n: u32) -> usize
+    requires { ⌜ at + length (now bytes) + 20 ≤ 368640 ⌝ }
+    ensures { λ r. ⌜ Puts (now (bytes .entry) ++ decimal n) at (now (page .entry)) r (now (page .exit)) ⌝ }
+    ensures { λ r. ⌜ r ≤ at + length (now (bytes .entry)) + 20 ⌝ }
+{
+    let end = put(page, at, bytes);
+    put_count(page, end, n)
+}
+
+// Puts a number between two texts.
+pub fn put_between(page: &mut [u8; PAGE], at: usize, before: &[u8], n: u32, after: &[u8]) -> usize
+    requires { ⌜ at + length (now before) + 20 + length (now after) ≤ 368640 ⌝ }
+    ensures { λ r. ⌜ Puts (now (before .entry) ++ decimal n ++ now (after .entry)) at (now (page .entry)) r (now (page .exit)) ⌝ }
+    ensures { λ r. ⌜ r ≤ at + length (now (before .entry)) + 20 + length (now (after .entry)) ⌝ }
+{
+    let end = put_after(page, at, before, n);
+    put(page, end, after)
 }
 
 // The size of a number, without its sign.

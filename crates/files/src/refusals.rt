@@ -1,39 +1,32 @@
 // Refusals as the programs print them.
 ghost use Prim.Native.Nat.{_+_, _≤_};
-ghost use lib.ListN.{length};
+ghost use Rattle.files.specs.Page.{Puts};
+ghost use Rattle.files.specs.Refusals.{placeLine, valuesText, wordsText, refusalLine, noFileLine};
 use crate::page::PAGE;
 use crate::page::put;
+use crate::page::put_after;
+use crate::page::put_between;
 use crate::page::put_count;
 use rules::Refusal;
 
 // `refused`, the paper's number, and the place or 0: a line of `boxes`.
-pub fn put_place(page: &mut [u8; PAGE], at: usize, r: Refusal) -> usize
+pub fn put_place(page: &mut [u8; PAGE], at: usize, why: Refusal) -> usize
     requires { ⌜ at + 50 ≤ 368640 ⌝ }
+    ensures { λ r. ⌜ Puts (placeLine why) at (now (page .entry)) r (now (page .exit)) ⌝ }
     ensures { λ r. ⌜ r ≤ at + 50 ⌝ }
 {
-    let a = put(page, at, b"refused ");
-    let b = put_count(page, a, r.number());
-    let c = put(page, b, b" ");
-    let d = put_count(page, c, r.place());
-    put(page, d, b"\n")
-}
-
-// A number between two texts.
-fn put_between(page: &mut [u8; PAGE], at: usize, before: &[u8], n: u32, after: &[u8]) -> usize
-    requires { ⌜ (at ≤ 1000) × (length (now before) ≤ 100) × (length (now after) ≤ 100) ⌝ }
-    ensures { λ r. ⌜ r ≤ at + 220 ⌝ }
-{
-    let a = put(page, at, before);
-    let b = put_count(page, a, n);
-    put(page, b, after)
+    let a = put_after(page, at, b"refused ", why.number());
+    let b = put_after(page, a, b" ", why.place());
+    put(page, b, b"\n")
 }
 
 // The refusal's values, each after a space.
-fn put_values(page: &mut [u8; PAGE], at: usize, r: Refusal) -> usize
+fn put_values(page: &mut [u8; PAGE], at: usize, why: Refusal) -> usize
     requires { ⌜ at ≤ 1000 ⌝ }
+    ensures { λ r. ⌜ Puts (valuesText why) at (now (page .entry)) r (now (page .exit)) ⌝ }
     ensures { λ r. ⌜ r ≤ at + 260 ⌝ }
 {
-    match r {
+    match why {
         Refusal::TextTooLong => {
             return at;
         }
@@ -44,21 +37,22 @@ fn put_values(page: &mut [u8; PAGE], at: usize, r: Refusal) -> usize
             return at;
         }
         Refusal::BoxMisses { arc, node } => {
-            let a = put_between(page, at, b" ", arc, b" ");
-            return put_count(page, a, node);
+            let a = put_after(page, at, b" ", arc);
+            return put_after(page, a, b" ", node);
         }
         _ => {
-            return put_between(page, at, b" ", r.place(), b"");
+            return put_after(page, at, b" ", why.place());
         }
     }
 }
 
-// The refusal in a learner's words.
-fn put_words(page: &mut [u8; PAGE], at: usize, r: Refusal) -> usize
+// The refusal in words.
+fn put_words(page: &mut [u8; PAGE], at: usize, why: Refusal) -> usize
     requires { ⌜ at ≤ 1000 ⌝ }
+    ensures { λ r. ⌜ Puts (wordsText why) at (now (page .entry)) r (now (page .exit)) ⌝ }
     ensures { λ r. ⌜ r ≤ at + 260 ⌝ }
 {
-    match r {
+    match why {
         Refusal::TextTooLong => {
             return put(page, at, b"the text is over 65536 bytes");
         }
@@ -96,7 +90,7 @@ fn put_words(page: &mut [u8; PAGE], at: usize, r: Refusal) -> usize
             );
         }
         Refusal::CountsDisagree { line } => {
-            return put_between(page, at, b"the counts disagree at line ", line, b"");
+            return put_after(page, at, b"the counts disagree at line ", line);
         }
         Refusal::NodeAgain { line } => {
             return put_between(page, at, b"line ", line, b" places a node a second time");
@@ -114,12 +108,11 @@ fn put_words(page: &mut [u8; PAGE], at: usize, r: Refusal) -> usize
             return put(page, at, b"the source, target or arc is not in the network");
         }
         Refusal::NoWalk { settled } => {
-            return put_between(
+            return put_after(
                 page,
                 at,
                 b"no walk leads from the source to the target, settled ",
                 settled,
-                b"",
             );
         }
         Refusal::BoxMisses { arc, node } => {
@@ -130,18 +123,20 @@ fn put_words(page: &mut [u8; PAGE], at: usize, r: Refusal) -> usize
 }
 
 // `refused`, the paper's number, all the values, and the words in brackets: a reply of the console.
-pub fn put_refusal(page: &mut [u8; PAGE], r: Refusal) -> usize
+pub fn put_refusal(page: &mut [u8; PAGE], why: Refusal) -> usize
+    ensures { λ r. ⌜ Puts (refusalLine why) 0 (now (page .entry)) r (now (page .exit)) ⌝ }
     ensures { λ r. ⌜ r ≤ 1000 ⌝ }
 {
-    let a = put_between(page, 0, b"refused ", r.number(), b"");
-    let b = put_values(page, a, r);
+    let a = put_after(page, 0, b"refused ", why.number());
+    let b = put_values(page, a, why);
     let c = put(page, b, b" (");
-    let d = put_words(page, c, r);
+    let d = put_words(page, c, why);
     put(page, d, b")\n")
 }
 
 // The reply where a file cannot be read.
 pub fn put_no_file(page: &mut [u8; PAGE]) -> usize
+    ensures { λ r. ⌜ Puts noFileLine 0 (now (page .entry)) r (now (page .exit)) ⌝ }
     ensures { λ r. ⌜ r ≤ 1000 ⌝ }
 {
     put(page, 0, b"refused 0 0 (the file cannot be read)\n")

@@ -1,22 +1,26 @@
 // The calls on a network that has been lent.
 ghost use Prim.Native.Nat.{_≤_};
-ghost use lib.ListN.{length};
+ghost use mathlib.Core.Path.{_≡_};
+ghost use lib.ListN.{length, take};
+ghost use Rattle.files.specs.Page.{Puts};
+ghost use Rattle.replies.specs.Replies.{answerLine};
 use crate::obey::Sizes;
 use crate::showing::put_counts;
 use crate::words::put_judged;
 use commands::Call;
 use files::page::PAGE;
 use files::page::put;
-use files::page::put_count;
+use files::page::put_after;
 use files::refusals::put_refusal;
 use search::Answer;
 
 // The first k places of a row, or all where there are fewer.
 fn first_places(row: &[u32], k: usize) -> &[u32]
+    ensures { λ r. ⌜ now r ≡ take k (now (row .entry)) ⌝ }
     ensures { λ r. ⌜ length (now r) ≤ length (now (row .entry)) ⌝ }
 {
     if k < row.len() {
-        return &row[0..k];
+        return &row[..k];
     }
     row
 }
@@ -24,6 +28,7 @@ fn first_places(row: &[u32], k: usize) -> &[u32]
 // `ok`, length, arcs, settled and the route's arcs; or why a search was refused.
 fn put_answer(page: &mut [u8; PAGE], answer: Answer, route: &[u32]) -> usize
     requires { ⌜ length (now route) ≤ 16384 ⌝ }
+    ensures { λ r. ⌜ Puts (answerLine answer (now (route .entry))) 0 (now (page .entry)) r (now (page .exit)) ⌝ }
     ensures { λ r. ⌜ r ≤ 368640 ⌝ }
 {
     match answer {
@@ -32,14 +37,11 @@ fn put_answer(page: &mut [u8; PAGE], answer: Answer, route: &[u32]) -> usize
             arcs,
             settled,
         } => {
-            let a = put(page, 0, b"ok ");
-            let b = put_count(page, a, length);
-            let c = put(page, b, b" ");
-            let d = put_count(page, c, arcs);
-            let e = put(page, d, b" ");
-            let f = put_count(page, e, settled);
-            let g = put_counts(page, f, first_places(route, arcs as usize));
-            return put(page, g, b"\n");
+            let a = put_after(page, 0, b"ok ", length);
+            let b = put_after(page, a, b" ", arcs);
+            let c = put_after(page, b, b" ", settled);
+            let d = put_counts(page, c, first_places(route, arcs as usize));
+            return put(page, d, b"\n");
         }
         Answer::Refused(r) => {
             return put_refusal(page, r);

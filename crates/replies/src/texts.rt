@@ -1,5 +1,7 @@
 // `gr` and `co`: files are read into the lent rows.
 ghost use Prim.Native.Nat.{_≤_};
+ghost use Rattle.files.specs.Page.{Puts};
+ghost use Rattle.replies.specs.Replies.{sizesLine};
 use crate::obey::Done;
 use crate::obey::Sizes;
 use crate::words::put_ok;
@@ -8,7 +10,7 @@ use dimacs::CoReply;
 use dimacs::GrReply;
 use files::page::PAGE;
 use files::page::put;
-use files::page::put_count;
+use files::page::put_after;
 use files::reading::File;
 use files::reading::read_file;
 use files::refusals::put_no_file;
@@ -16,13 +18,12 @@ use files::refusals::put_refusal;
 
 // `ok` and the numbers n and m of a graph file.
 fn put_sizes(page: &mut [u8; PAGE], n: u32, m: u32) -> usize
+    ensures { λ r. ⌜ Puts (sizesLine n m) 0 (now (page .entry)) r (now (page .exit)) ⌝ }
     ensures { λ r. ⌜ r ≤ 1000 ⌝ }
 {
-    let a = put(page, 0, b"ok ");
-    let b = put_count(page, a, n);
-    let c = put(page, b, b" ");
-    let d = put_count(page, c, m);
-    put(page, d, b"\n")
+    let a = put_after(page, 0, b"ok ", n);
+    let b = put_after(page, a, b" ", m);
+    put(page, b, b"\n")
 }
 
 // `gr`: n and m become the file's.

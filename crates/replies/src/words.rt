@@ -1,5 +1,7 @@
 // The replies that are fixed words.
 ghost use Prim.Native.Nat.{_≤_};
+ghost use Rattle.files.specs.Page.{Puts};
+ghost use Rattle.replies.specs.Replies.{okLine, helpLine, judgedLine, faultLine};
 use commands::Fault;
 use files::page::PAGE;
 use files::page::put;
@@ -7,12 +9,14 @@ use files::refusals::put_refusal;
 use rules::Judged;
 
 pub fn put_ok(page: &mut [u8; PAGE]) -> usize
+    ensures { λ r. ⌜ Puts okLine 0 (now (page .entry)) r (now (page .exit)) ⌝ }
     ensures { λ r. ⌜ r ≤ 1000 ⌝ }
 {
     put(page, 0, b"ok\n")
 }
 
 pub fn put_help(page: &mut [u8; PAGE]) -> usize
+    ensures { λ r. ⌜ Puts helpLine 0 (now (page .entry)) r (now (page .exit)) ⌝ }
     ensures { λ r. ⌜ r ≤ 1000 ⌝ }
 {
     let a = put(
@@ -29,6 +33,7 @@ pub fn put_help(page: &mut [u8; PAGE]) -> usize
 
 // `ok`, or why a call was refused.
 pub fn put_judged(page: &mut [u8; PAGE], j: Judged) -> usize
+    ensures { λ r. ⌜ Puts (judgedLine j) 0 (now (page .entry)) r (now (page .exit)) ⌝ }
     ensures { λ r. ⌜ r ≤ 1000 ⌝ }
 {
     match j {
@@ -43,6 +48,7 @@ pub fn put_judged(page: &mut [u8; PAGE], j: Judged) -> usize
 
 // Why a line is no command.
 pub fn put_fault(page: &mut [u8; PAGE], fault: Fault) -> usize
+    ensures { λ r. ⌜ Puts (faultLine fault) 0 (now (page .entry)) r (now (page .exit)) ⌝ }
     ensures { λ r. ⌜ r ≤ 1000 ⌝ }
 {
     match fault {

@@ -1,33 +1,37 @@
 -- `replies::showing::put_counts` meets its contract. Assumes nothing.
 use Prim.Native.Nat.{_≤_, _+_, _-_, _*_}
-use lib.ListN.{length}
+use native.Mathlib.Omega.{arith}
+use lib.ListN.{length, take}
+use lib.Seq.{take-all}
 use borrow.Author.Needs.{needs}
+use Rattle.files.specs.Page.{Puts}
+use Rattle.files.specs.Decimal.{decimal, spaced, countsText}
+use Rattle.files.proofs.PageLaws.{puts-none}
+use Rattle.files.proofs.RowLaws.{puts-next}
 use Rattle.replies.proofs.showing.put_counts.Statement.{statement}
 use Rattle.replies.proofs.showing.put_counts.Tie as tie
 
 abbrev Inv-loop : tie.InvT-loop
-Inv-loop page₀ start row at₀ i₀ t7 page at i = (i ≤ length row) × (at ≤ 1000 + 22 * i)
+Inv-loop page₀ start row at₀ i₀ t6 page at i = (i ≤ length row) × (at ≤ 1000 + 22 * i) × Puts (countsText (take i row)) start page₀ at page
 
 abbrev μ-loop : tie.MeasureT-loop
-μ-loop page₀ start row at₀ i₀ t7 page at i = length row - i
+μ-loop page₀ start row at₀ i₀ t6 page at i = length row - i
 
 loop-holds : tie.Need-loop-holds Inv-loop μ-loop
-loop-holds c = search needs
+unfolding spaced
+loop-holds c = (search needs, omega arith, puts-none)
 
-slice-aggregate-put : tie.Need-slice-aggregate-put Inv-loop μ-loop
-slice-aggregate-put c = search needs
+slice-aggregate-put-after : tie.Need-slice-aggregate-put-after Inv-loop μ-loop
+slice-aggregate-put-after c = search needs
 
-put-requires : tie.Need-put-requires Inv-loop μ-loop
-put-requires c κs = search needs
+mul-put-after : tie.Need-mul-put-after Inv-loop μ-loop
+mul-put-after c = search needs
 
-mul-put-count : tie.Need-mul-put-count Inv-loop μ-loop
-mul-put-count c = search needs
+shared-slice-read-put-after : tie.Need-shared-slice-read-put-after Inv-loop μ-loop
+shared-slice-read-put-after c = search needs
 
-shared-slice-read-put-count : tie.Need-shared-slice-read-put-count Inv-loop μ-loop
-shared-slice-read-put-count c = search needs
-
-put-count-requires : tie.Need-put-count-requires Inv-loop μ-loop
-put-count-requires c κs = search needs
+put-after-requires : tie.Need-put-after-requires Inv-loop μ-loop
+put-after-requires c κs = search needs
 
 add-i : tie.Need-add-i Inv-loop μ-loop
 add-i c = search needs
@@ -36,10 +40,12 @@ loop-less : tie.Need-loop-less Inv-loop μ-loop
 loop-less c = search needs
 
 loop-again : tie.Need-loop-again Inv-loop μ-loop
-loop-again c = search needs
+loop-again c =
+    let t = c .before .before .before .before in
+    (omega arith, omega arith, puts-next decimal _ 0 _ (t .loop-test .taken) (t .before .loop .inv .2) (c .put-after .ensures .0))
 
 returns : tie.Need-returns Inv-loop μ-loop
-returns c = search needs
+returns c = (rw (take-all (c .before .loop .i) (c .before .before .before .args .row .now) (c .loop-test .left)) at (c .before .loop .inv .2), omega arith)
 
 pub put-counts-spec : {M : Type 1} → statement M
 put-counts-spec =
@@ -48,11 +54,10 @@ put-counts-spec =
     Inv-loop
     μ-loop
     loop-holds
-    slice-aggregate-put
-    put-requires
-    mul-put-count
-    shared-slice-read-put-count
-    put-count-requires
+    slice-aggregate-put-after
+    mul-put-after
+    shared-slice-read-put-after
+    put-after-requires
     add-i
     loop-less
     loop-again

@@ -1,15 +1,16 @@
--- `files::listing::put_box` meets its contract. Assumes nothing.
+-- `listing::put_box` meets its contract. Assumes nothing.
 use Prim.Native.Nat.{_-_}
 use mathlib.Core.Path.{ap}
 use native.Mathlib.Omega.{arith}
+use Rattle.scan.specs.Ascii.{bytes}
 use Rattle.files.proofs.PageLaws.{puts-both, puts-same}
 use mir.Facts.{toZ-ofZ}
 use borrow.Author.Needs.{sfits-of}
 use Rattle.files.specs.Decimal.{whole}
-use Rattle.files.specs.Listing.{wholeField}
+use Rattle.listing.specs.Listing.{wholeField}
 use borrow.Author.Needs.{needs}
-use Rattle.files.proofs.listing.put_box.Statement.{statement}
-use Rattle.files.proofs.listing.put_box.Tie as tie
+use Rattle.listing.proofs.put_box.Statement.{statement}
+use Rattle.listing.proofs.put_box.Tie as tie
 
 mul-put-number-field : tie.Need-mul-put-number-field
 mul-put-number-field c = search needs
@@ -63,6 +64,7 @@ put-requires : tie.Need-put-requires
 put-requires c κs = search needs
 
 returns : tie.Need-returns
+unfolding bytes
 returns c =
     let d = c .before .before .before in
     let e = d .before .before .before in

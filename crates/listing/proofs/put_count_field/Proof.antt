@@ -1,10 +1,11 @@
--- `files::listing::put_count_field` meets its contract. Assumes nothing.
+-- `listing::put_count_field` meets its contract. Assumes nothing.
 use Prim.Native.Nat.{_-_}
 use native.Mathlib.Omega.{arith}
+use Rattle.scan.specs.Ascii.{bytes}
 use Rattle.files.proofs.PageLaws.{puts-both}
 use borrow.Author.Needs.{needs}
-use Rattle.files.proofs.listing.put_count_field.Statement.{statement}
-use Rattle.files.proofs.listing.put_count_field.Tie as tie
+use Rattle.listing.proofs.put_count_field.Statement.{statement}
+use Rattle.listing.proofs.put_count_field.Tie as tie
 
 put-count-requires : tie.Need-put-count-requires
 put-count-requires c κs = search needs
@@ -16,6 +17,7 @@ put-requires : tie.Need-put-requires
 put-requires c κs = search needs
 
 returns : tie.Need-returns
+unfolding bytes
 returns c = (puts-both (c .before .before .before .put-count .ensures .0) (c .put .ensures), omega arith)
 
 pub put-count-field-spec : {M : Type 1} → statement M

@@ -1,16 +1,17 @@
 -- The listing that `boxes` prints. Assumes nothing: these are definitions.
 use Prim.Native.Nat.{ℕ, zero, suc, _+_, _*_}
-use mathlib.Core.List.{List, [], _∷_, _++_}
+use mathlib.Core.List.{List, [], _++_}
 use lib.IntN.{ℤ, pos}
 use lib.ListN.{getD}
+use Rattle.scan.specs.Ascii.{bytes}
 use Rattle.files.specs.Decimal.{decimal, whole}
 
--- a number and the space or the line end after it
+-- a number and the space after it
 abbrev pub countField : ℕ → List ℕ
-countField n = decimal n ++ (32 ∷ [])
+countField n = decimal n ++ bytes " "
 
 abbrev pub wholeField : ℤ → List ℕ
-wholeField z = whole z ++ (32 ∷ [])
+wholeField z = whole z ++ bytes " "
 
 -- the four sides of the box that begins at place k, and the line's end
 abbrev pub boxText : List ℤ → ℕ → List ℕ
@@ -19,7 +20,7 @@ boxText boxes k =
     ++ wholeField (getD boxes (k + 1) (pos 0))
     ++ wholeField (getD boxes (k + 2) (pos 0))
     ++ whole (getD boxes (k + 3) (pos 0))
-    ++ (10 ∷ [])
+    ++ bytes "\n"
 
 -- the line of the arc in place i: arc, tail, head, weight, left, right, low, high
 unfoldable pub lineText : List ℕ → List ℕ → List ℕ → List ℤ → ℕ → List ℕ

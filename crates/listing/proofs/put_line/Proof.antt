@@ -1,11 +1,11 @@
--- `files::listing::put_line` meets its contract. Assumes nothing.
+-- `listing::put_line` meets its contract. Assumes nothing.
 use Prim.Native.Nat.{_-_}
 use native.Mathlib.Omega.{arith}
 use Rattle.files.proofs.PageLaws.{puts-both}
-use Rattle.files.specs.Listing.{lineText}
+use Rattle.listing.specs.Listing.{lineText}
 use borrow.Author.Needs.{needs}
-use Rattle.files.proofs.listing.put_line.Statement.{statement}
-use Rattle.files.proofs.listing.put_line.Tie as tie
+use Rattle.listing.proofs.put_line.Statement.{statement}
+use Rattle.listing.proofs.put_line.Tie as tie
 
 add-put-count-field : tie.Need-add-put-count-field
 add-put-count-field c = search needs

@@ -1,14 +1,15 @@
--- `files::listing::put_number_field` meets its contract. Assumes nothing.
+-- `listing::put_number_field` meets its contract. Assumes nothing.
 use Prim.Native.Nat.{_-_}
 use mathlib.Core.Path.{ap}
 use native.Mathlib.Omega.{arith}
+use Rattle.scan.specs.Ascii.{bytes}
 use Rattle.files.proofs.PageLaws.{puts-both, puts-same}
 use mir.Syntax.{w32}
 use mir.Facts.{toZ-ofZ}
 use Rattle.files.specs.Decimal.{whole}
 use borrow.Author.Needs.{needs}
-use Rattle.files.proofs.listing.put_number_field.Statement.{statement}
-use Rattle.files.proofs.listing.put_number_field.Tie as tie
+use Rattle.listing.proofs.put_number_field.Statement.{statement}
+use Rattle.listing.proofs.put_number_field.Tie as tie
 
 put-number-requires : tie.Need-put-number-requires
 put-number-requires c κs = search needs
@@ -20,6 +21,7 @@ put-requires : tie.Need-put-requires
 put-requires c κs = search needs
 
 returns : tie.Need-returns
+unfolding bytes
 returns c =
     let a = c .before .before .before .before .before in
     let z = ap whole (toZ-ofZ {w = w32} (a .fits .z)) in

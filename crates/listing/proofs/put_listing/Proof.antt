@@ -1,14 +1,14 @@
--- `files::listing::put_listing` meets its contract. Assumes nothing.
+-- `listing::put_listing` meets its contract. Assumes nothing.
 use Prim.Native.Nat.{_≤_, _-_, _*_}
 use mathlib.Core.Path.{_≡_}
 use native.Mathlib.Omega.{arith}
 use Rattle.files.proofs.PageLaws.{puts-both, puts-none}
 use native.Mathlib.Numerals.{add-one}
 use borrow.Author.Needs.{needs}
 use Rattle.files.specs.Page.{Puts}
-use Rattle.files.specs.Listing.{listing}
-use Rattle.files.proofs.listing.put_listing.Statement.{statement}
-use Rattle.files.proofs.listing.put_listing.Tie as tie
+use Rattle.listing.specs.Listing.{listing}
+use Rattle.listing.proofs.put_listing.Statement.{statement}
+use Rattle.listing.proofs.put_listing.Tie as tie
 
 abbrev Inv-loop : tie.InvT-loop
 Inv-loop page₀ m tails heads weights boxes at₀ i₀ page at i = (i ≤ m) × (at ≤ 176 * i) × Puts (listing tails heads weights boxes i) 0 page₀ at page

@@ -1,0 +1,20 @@
+-- `files::refusals::put_no_file` meets its contract. Assumes nothing.
+use native.Mathlib.Omega.{arith}
+use borrow.Author.Needs.{needs}
+use Rattle.scan.specs.Ascii.{bytes}
+use Rattle.files.specs.Refusals.{noFileLine}
+use Rattle.files.proofs.refusals.put_no_file.Statement.{statement}
+use Rattle.files.proofs.refusals.put_no_file.Tie as tie
+
+slice-aggregate-put : tie.Need-slice-aggregate-put
+slice-aggregate-put c = search needs
+
+put-requires : tie.Need-put-requires
+put-requires c κs = search needs
+
+returns : tie.Need-returns
+unfolding noFileLine bytes
+returns c = (c .put .ensures, omega arith)
+
+pub put-no-file-spec : {M : Type 1} → statement M
+put-no-file-spec = tie.close (tie.spec slice-aggregate-put put-requires returns)

@@ -1,0 +1,62 @@
+-- `replies::showing::show_counts` meets its contract. Assumes nothing.
+use mathlib.Core.Path.{sym}
+use lib.Seq.{length-take-le}
+use native.Mathlib.Omega.{arith}
+use borrow.Author.Needs.{needs}
+use Rattle.scan.specs.Ascii.{bytes}
+use Rattle.files.specs.Decimal.{decimal}
+use Rattle.files.proofs.PageLaws.{puts-both}
+use Rattle.replies.proofs.ShowingLaws.{fewer, enough}
+use Rattle.replies.proofs.showing.show_counts.Statement.{statement}
+use Rattle.replies.proofs.showing.show_counts.Tie as tie
+
+how-many-requires : tie.Need-how-many-requires
+how-many-requires c κs = search needs
+
+put-fault-requires : tie.Need-put-fault-requires
+put-fault-requires c κs = search needs
+
+returns : tie.Need-returns
+returns c =
+    let d = c .before .before .before in
+    (fewer decimal _ _ (d .how-many .ensures) (c .before .before .if1 .taken) (c .put-fault .ensures .0), omega arith)
+
+put-requires : tie.Need-put-requires
+put-requires c κs = search needs
+
+slice-aggregate-put-counts : tie.Need-slice-aggregate-put-counts
+slice-aggregate-put-counts c = sym (length-take-le _ _ (c .before .before .before .before .if1 .left))
+
+put-counts-requires : tie.Need-put-counts-requires
+put-counts-requires c κs =
+    let d = c .before .before .before .before in
+    let short = length-take-le (d .before .how-many .result) (d .before .before .before .before .args .row .now) (d .if1 .left) in
+    (omega arith, omega (arith, short))
+
+slice-aggregate-put : tie.Need-slice-aggregate-put
+slice-aggregate-put c = search needs
+
+put-requires-2 : tie.Need-put-requires-2
+put-requires-2 c κs = search needs
+
+returns-2 : tie.Need-returns-2
+unfolding bytes
+returns-2 c =
+    let d = c .before .before .before in
+    let e = d .before .before .before in
+    let f = e .before .before in
+    (enough decimal _ _ (f .before .how-many .ensures) (f .if1 .left) (puts-both (puts-both (e .put .ensures) (d .put-counts .ensures .0)) (c .put2 .ensures)), omega arith)
+
+pub show-counts-spec : {M : Type 1} → statement M
+show-counts-spec =
+    tie.close
+    (tie.spec
+    how-many-requires
+    put-fault-requires
+    returns
+    put-requires
+    slice-aggregate-put-counts
+    put-counts-requires
+    slice-aggregate-put
+    put-requires-2
+    returns-2)

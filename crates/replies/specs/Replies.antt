@@ -1,0 +1,57 @@
+-- What the console replies, one line each. Assumes nothing: these are definitions.
+use Prim.Native.Nat.{ℕ}
+use mathlib.Core.List.{List, _++_}
+use lib.ListN.{take}
+use Rattle.scan.specs.Ascii.{bytes}
+use Rattle.rules.specs.declared.Judged.{Judged}
+use Rattle.rules.specs.declared.Judged.the-variants.{Fine, Refused}
+use Rattle.files.specs.Decimal.{decimal, countsText}
+use Rattle.files.specs.Refusals.{refusalLine}
+use Rattle.commands.specs.declared.Fault.{Fault}
+use Rattle.commands.specs.declared.Fault.the-variants.{LongLine, EmptyLine, ControlByte, EmptyWord, NoCommand, WordCount, NoRow, LongRow, Misspelt, BeyondType, FewerLent}
+use Rattle.search.specs.declared.Answer.{Answer}
+use Rattle.search.specs.declared.Answer.the-variants as answer
+
+unfoldable pub okLine : List ℕ
+okLine = bytes "ok\n"
+
+unfoldable pub helpLine : List ℕ
+helpLine =
+    bytes "commands: n N, m M, lend ROW VALUES, show ROW, show ROW K, gr FILE, co FILE, build, check, "
+    ++ bytes "update ARC WEIGHT, search S T, boxed S T, fresh, help; rows: tails, heads, weights, x, y, boxes, route\n"
+
+-- `build`, `check`, `update`: `ok`, or why the call was refused
+unfoldable pub judgedLine : Judged → List ℕ
+judgedLine Fine = okLine
+judgedLine (Refused r) = refusalLine r
+
+-- `gr`: n and m of the file
+unfoldable pub sizesLine : ℕ → ℕ → List ℕ
+sizesLine n m = bytes "ok " ++ decimal n ++ bytes " " ++ decimal m ++ bytes "\n"
+
+-- `search`, `boxed`: length, arc count, settled count and the route's arcs; or why the search was refused
+unfoldable pub answerLine : Answer → List ℕ → List ℕ
+answerLine (answer.Found length arcs settled) route =
+    bytes "ok "
+    ++ decimal length
+    ++ bytes " "
+    ++ decimal arcs
+    ++ bytes " "
+    ++ decimal settled
+    ++ countsText (take arcs route)
+    ++ bytes "\n"
+answerLine (answer.Refused r) route = refusalLine r
+
+-- why a line is no command
+unfoldable pub faultLine : Fault → List ℕ
+faultLine LongLine = bytes "? the line is too long\n"
+faultLine EmptyLine = bytes "? the line is empty\n"
+faultLine ControlByte = bytes "? a word holds a carriage return or a tab\n"
+faultLine EmptyWord = bytes "? words are divided by single spaces, with none before or after\n"
+faultLine NoCommand = bytes "? no such command, help names them\n"
+faultLine WordCount = bytes "? a wrong count of words for this command\n"
+faultLine NoRow = bytes "? no such row, help names them\n"
+faultLine LongRow = bytes "? the row has fewer places than that\n"
+faultLine Misspelt = bytes "? a number is misspelt\n"
+faultLine BeyondType = bytes "? a number is too small or too large for its place\n"
+faultLine FewerLent = bytes "? fewer places of the row are lent\n"
