@@ -7,7 +7,7 @@ use native.Mathlib.Decide.{decLe}
 use native.Mathlib.Numerals.{add-one}
 use native.Mathlib.Omega.{arith}
 use lib.Dec.{eqb}
-use lib.ListN.{length, take, drop, set, length-set, drop-of-length-le}
+use lib.ListN.{length, take, set, drop-of-length-le}
 use lib.Seq.{take-suc-set, take-all, drop-set-lt, drop-drop, set-out}
 use borrow.Author.Tests.{ne-eqb}
 use Rattle.commands.specs.Words.{holdsByte}

@@ -20,7 +20,8 @@ use scan::pieces::first_at;
 use scan::pieces::front;
 use scan::pieces::rest;
 
-// Stores the numbers that judged words spell, from the first place on, and answers how many there are.
+// Stores the numbers that judged words spell, from the first place on, and answers how many there are. A judged word is a
+// number, so the loop never ends early.
 fn store_counts(row: &mut [u32], words: &[u8]) -> usize
     requires { ⌜ (valuesJudged false (wordsOf (now words)) ≡ Good) × (length (wordsOf (now words)) ≤ length (now row)) ⌝ }
     ensures { λ r. let all = wordsOf (now (words .entry)) in ⌜ (r ≡ length all) × (now (row .exit) ≡ stored (counts all) (now (row .entry))) ⌝ }
