@@ -2,32 +2,69 @@
 use Prim.Native.Nat.{ℕ, _≤_}
 use mathlib.Core.Path.{_≡_}
 use mathlib.Core.List.{List}
-use lib.IntN.{ℤ}
-use lib.ListN.{length}
+use lib.IntN.{ℤ, pos}
+use lib.ListN.{length, replicate}
+use Rattle.commands.specs.Names.{placesOf}
+use Rattle.commands.specs.declared.verbs.Row.the-variants as row
 use Rattle.console.specs.declared.rows.Lent.{Lent}
 use Rattle.console.specs.declared.rows.State.{State}
 
+-- what stands in the rows
+pub record Rows : Type 0 where
+  pub tails : List ℕ
+  pub heads : List ℕ
+  pub weights : List ℕ
+  pub x : List ℤ
+  pub y : List ℤ
+  pub boxes : List ℤ
+  pub route : List ℕ
+
+abbrev pub rows : List ℕ → List ℕ → List ℕ → List ℤ → List ℤ → List ℤ → List ℕ → Rows
+rows ts hs ws xs ys bs rs = record { tails = ts; heads = hs; weights = ws; x = xs; y = ys; boxes = bs; route = rs }
+
+-- how many places of each row are lent
+abbrev pub lents : ℕ → ℕ → ℕ → ℕ → ℕ → ℕ → ℕ → Lent
+lents t h w a b c r = record { tails = t; heads = h; weights = w; x = a; y = b; boxes = c; route = r }
+
+-- the rows have all the places that the console has
+pub record Full (all : Rows) : Type 0 where
+  pub tails : length (all .tails) ≡ placesOf row.Tails
+  pub heads : length (all .heads) ≡ placesOf row.Heads
+  pub weights : length (all .weights) ≡ placesOf row.Weights
+  pub x : length (all .x) ≡ placesOf row.X
+  pub y : length (all .y) ≡ placesOf row.Y
+  pub boxes : length (all .boxes) ≡ placesOf row.Boxes
+  pub route : length (all .route) ≡ placesOf row.Route
+
 -- no more places of a row are lent than the console has
 pub record Within (lent : Lent) : Type 0 where
-  pub tails : lent .tails ≤ 4096
-  pub heads : lent .heads ≤ 4096
-  pub weights : lent .weights ≤ 4096
-  pub x : lent .x ≤ 1024
-  pub y : lent .y ≤ 1024
-  pub boxes : lent .boxes ≤ 16384
-  pub route : lent .route ≤ 1024
-
--- the places that the console has of each row
-pub record Full (ts hs ws : List ℕ) (xs ys bs : List ℤ) (rs : List ℕ) : Type 0 where
-  pub tails : length ts ≡ 4096
-  pub heads : length hs ≡ 4096
-  pub weights : length ws ≡ 4096
-  pub x : length xs ≡ 1024
-  pub y : length ys ≡ 1024
-  pub boxes : length bs ≡ 16384
-  pub route : length rs ≡ 1024
+  pub tails : lent .tails ≤ placesOf row.Tails
+  pub heads : lent .heads ≤ placesOf row.Heads
+  pub weights : lent .weights ≤ placesOf row.Weights
+  pub x : lent .x ≤ placesOf row.X
+  pub y : lent .y ≤ placesOf row.Y
+  pub boxes : lent .boxes ≤ placesOf row.Boxes
+  pub route : lent .route ≤ placesOf row.Route
 
 -- what is lent lies within the rows, and the last reply within the page
 pub record Well (state : State) : Type 0 where
   pub lent : Within (state .lent)
   pub end : state .end ≤ 368640
+
+-- a row with a number in all its places
+abbrev pub allOf : {A : Type 0} → A → List A → List A
+allOf number row = replicate (length row) number
+
+-- the rows with 0 in all their places
+abbrev pub cleared : Rows → Rows
+cleared all =
+    rows (allOf 0 (all .tails)) (allOf 0 (all .heads)) (allOf 0 (all .weights))
+    (allOf (pos 0) (all .x)) (allOf (pos 0) (all .y)) (allOf (pos 0) (all .boxes)) (allOf 0 (all .route))
+
+-- all places are lent, n and m are 0, and no reply stands on the page
+abbrev pub fresh : State
+fresh = record {
+  lent = lents (placesOf row.Tails) (placesOf row.Heads) (placesOf row.Weights) (placesOf row.X) (placesOf row.Y) (placesOf row.Boxes) (placesOf row.Route);
+  sizes = record { n = 0; m = 0 };
+  end = 0;
+}

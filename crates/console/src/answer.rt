@@ -1,5 +1,8 @@
 // A line is answered: its reply is put on the page.
-ghost use Rattle.console.specs.Rows.{Full, Well, Within};
+ghost use mathlib.Core.Path.{_≡_};
+ghost use lib.ListN.{take};
+ghost use Rattle.console.specs.Rows.{rows, Full, Well, Within};
+ghost use Rattle.console.specs.Input.{askedBy};
 use crate::lending::lend;
 use crate::rows::Lent;
 use crate::rows::State;
@@ -14,19 +17,24 @@ use replies::obey::Sizes;
 use replies::obey::obey;
 use replies::words::put_fault;
 use replies::words::put_ok;
+use scan::pieces::front;
 
-// What a line asks for that has so many bytes.
-fn asked(line: &[u8], length: usize) -> Command {
-    if line.len() < length {
+// What a line of so many bytes asks for.
+fn asked(line: &[u8], bytes: usize) -> Command
+    ensures { λ r. ⌜ r ≡ askedBy (now (line .entry)) bytes ⌝ }
+{
+    if line.len() < bytes {
         return Command::Faulty(Fault::LongLine);
     }
-    command_of(&line[0..length])
+    command_of(front(line, bytes))
 }
 
-// The bytes of a line, or all where it is too long.
-fn heard(line: &[u8], length: usize) -> &[u8] {
-    if length < line.len() {
-        return &line[0..length];
+// The bytes of a line, or all that are kept where it is too long.
+fn heard(line: &[u8], bytes: usize) -> &[u8]
+    ensures { λ r. ⌜ now r ≡ take bytes (now (line .entry)) ⌝ }
+{
+    if bytes < line.len() {
+        return front(line, bytes);
     }
     line
 }
@@ -46,7 +54,7 @@ fn lend_out(
     boxes: &mut [i32],
     route: &mut [u32],
 ) -> State
-    requires { ⌜ Within lent × Full (now tails) (now heads) (now weights) (now x) (now y) (now boxes) (now route) ⌝ }
+    requires { ⌜ Within lent × Full (rows (now tails) (now heads) (now weights) (now x) (now y) (now boxes) (now route)) ⌝ }
     ensures { λ r. ⌜ Well r ⌝ }
 {
     let a = lent.tails;
@@ -92,7 +100,7 @@ pub fn answer(
     boxes: &mut [i32],
     route: &mut [u32],
 ) -> State
-    requires { ⌜ Well state × Full (now tails) (now heads) (now weights) (now x) (now y) (now boxes) (now route) ⌝ }
+    requires { ⌜ Well state × Full (rows (now tails) (now heads) (now weights) (now x) (now y) (now boxes) (now route)) ⌝ }
     ensures { λ r. ⌜ Well r ⌝ }
 {
     let lent = state.lent;

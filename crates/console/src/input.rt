@@ -1,4 +1,8 @@
 // The lines of the input.
+ghost use mathlib.Core.Path.{_≡_};
+ghost use Prim.Native.Nat.{_+_, min};
+ghost use lib.ListN.{length, set};
+ghost use Rattle.console.specs.Input.{Ahead, Following, HeardLine};
 use libc::STDIN_FILENO;
 
 // Where the next byte stands in the chunk that was read last, and where that ends.
@@ -22,13 +26,14 @@ pub struct Heard {
 }
 
 // The next byte. Only where the chunk is used up is more read: a line is then answered as soon as it is there.
-fn next_byte(chunk: &mut [u8; 4096], input: Input) -> Next {
+fn next_byte(chunk: &mut [u8; 4096], input: Input) -> Next
+    requires { ⌜ Ahead input ⌝ }
+    ensures { λ r. ⌜ Following (now (chunk .entry)) input (now (chunk .exit)) r ⌝ }
+{
     let at = input.at;
     let end = input.end;
     if at < end {
-        if at < 4096 {
-            return Next::Byte(chunk[at], Input { at: at + 1, end });
-        }
+        return Next::Byte(chunk[at], Input { at: at + 1, end });
     }
     let got = libc::read(STDIN_FILENO, chunk);
     let n = io::count(got, chunk);
@@ -38,17 +43,22 @@ fn next_byte(chunk: &mut [u8; 4096], input: Input) -> Next {
     Next::Byte(chunk[0], Input { at: 1, end: n })
 }
 
-// One byte more of a line.
-fn hear(line: &mut [u8], length: usize, byte: u8) -> usize {
-    if length < line.len() {
-        line[length] = byte;
-        return length + 1;
+// One byte more of a line that has `at` bytes: it is stored where there is room.
+fn hear(line: &mut [u8], at: usize, byte: u8) -> usize
+    ensures { λ r. ⌜ (r ≡ min at (length (now (line .entry))) + 1) × (now (line .exit) ≡ set (now (line .entry)) at byte) ⌝ }
+{
+    if at < line.len() {
+        line[at] = byte;
+        return at + 1;
     }
     line.len() + 1
 }
 
 // Reads up to the next byte 10 or the end of the input; what is beyond the line's room is passed over.
-pub fn read_line(line: &mut [u8], chunk: &mut [u8; 4096], input: Input) -> Heard {
+pub fn read_line(line: &mut [u8], chunk: &mut [u8; 4096], input: Input) -> Heard
+    requires { ⌜ Ahead input ⌝ }
+    ensures { λ r. ⌜ HeardLine (now (line .entry)) (now (line .exit)) (r .length) × Ahead (r .input) ⌝ }
+{
     let mut length = 0;
     let mut ahead = input;
     let mut left = u64::MAX;

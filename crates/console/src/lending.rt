@@ -1,7 +1,14 @@
 // `lend`: the values of a judged line are stored.
+ghost use mathlib.Core.Path.{_≡_};
+ghost use mathlib.Core.Bool.{true, false};
 ghost use Prim.Native.Nat.{_≤_};
-ghost use lib.ListN.{length};
-ghost use Rattle.console.specs.Rows.{Within, Full};
+ghost use lib.ListN.{length, drop};
+ghost use Rattle.commands.specs.Words.{wordsOf};
+ghost use Rattle.commands.specs.Commands.{valuesJudged, commandOf};
+ghost use Rattle.commands.specs.declared.faults.Judged.the-variants.{Good};
+ghost use Rattle.commands.specs.declared.Command.the-variants.{Lend};
+ghost use Rattle.console.specs.Rows.{rows, Full};
+ghost use Rattle.console.specs.Lending.{counts, wholes, stored, storedIn, lentIn};
 use crate::rows::Lent;
 use commands::numbers::Count;
 use commands::numbers::Signed;
@@ -13,9 +20,11 @@ use scan::pieces::first_at;
 use scan::pieces::front;
 use scan::pieces::rest;
 
-// Stores the numbers that the words spell, from the first place on, and answers how many there are.
+// Stores the numbers that judged words spell, from the first place on, and answers how many there are. A judged word is a
+// number, so the loop never ends early.
 fn store_counts(row: &mut [u32], words: &[u8]) -> usize
-    ensures { λ r. ⌜ r ≤ length (now (row .entry)) ⌝ }
+    requires { ⌜ (valuesJudged false (wordsOf (now words)) ≡ Good) × (length (wordsOf (now words)) ≤ length (now row)) ⌝ }
+    ensures { λ r. let all = wordsOf (now (words .entry)) in ⌜ (r ≡ length all) × (now (row .exit) ≡ stored (counts all) (now (row .entry))) ⌝ }
 {
     let mut at = 0;
     let mut i = 0;
@@ -26,9 +35,6 @@ fn store_counts(row: &mut [u32], words: &[u8]) -> usize
         let Count::Is(n) = word else {
             return i;
         };
-        if row.len() <= i {
-            return i;
-        }
         row[i] = n;
         i += 1;
         at = at + e + 1;
@@ -37,7 +43,8 @@ fn store_counts(row: &mut [u32], words: &[u8]) -> usize
 }
 
 fn store_numbers(row: &mut [i32], words: &[u8]) -> usize
-    ensures { λ r. ⌜ r ≤ length (now (row .entry)) ⌝ }
+    requires { ⌜ (valuesJudged true (wordsOf (now words)) ≡ Good) × (length (wordsOf (now words)) ≤ length (now row)) ⌝ }
+    ensures { λ r. let all = wordsOf (now (words .entry)) in ⌜ (r ≡ length all) × (now (row .exit) ≡ stored (wholes all) (now (row .entry))) ⌝ }
 {
     let mut at = 0;
     let mut i = 0;
@@ -48,9 +55,6 @@ fn store_numbers(row: &mut [i32], words: &[u8]) -> usize
         let Signed::Is(z) = word else {
             return i;
         };
-        if row.len() <= i {
-            return i;
-        }
         row[i] = z;
         i += 1;
         at = at + e + 1;
@@ -71,8 +75,8 @@ pub fn lend(
     boxes: &mut [i32],
     route: &mut [u32],
 ) -> Lent
-    requires { ⌜ Within lent × Full (now tails) (now heads) (now weights) (now x) (now y) (now boxes) (now route) ⌝ }
-    ensures { λ r. ⌜ Within r ⌝ }
+    requires { ⌜ (commandOf (now line) ≡ Lend row) × Full (rows (now tails) (now heads) (now weights) (now x) (now y) (now boxes) (now route)) ⌝ }
+    ensures { λ r. let words = drop 2 (wordsOf (now (line .entry))) in ⌜ (r ≡ lentIn row (length words) lent) × (rows (now (tails .exit)) (now (heads .exit)) (now (weights .exit)) (now (x .exit)) (now (y .exit)) (now (boxes .exit)) (now (route .exit)) ≡ storedIn row words (rows (now (tails .entry)) (now (heads .entry)) (now (weights .entry)) (now (x .entry)) (now (y .entry)) (now (boxes .entry)) (now (route .entry)))) ⌝ }
 {
     let words = after_word(after_word(line));
     let mut now_lent = lent;

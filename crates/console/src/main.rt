@@ -5,7 +5,7 @@ mod lending;
 mod rows;
 
 ghost use Prim.Native.Nat.{_<_};
-ghost use Rattle.console.specs.Rows.{Full};
+ghost use Rattle.console.specs.Rows.{rows, Full};
 use crate::answer::answer;
 use crate::input::Input;
 use crate::input::read_line;
@@ -37,7 +37,7 @@ fn converse(
     boxes: &mut [i32],
     route: &mut [u32],
 )
-    requires { ⌜ Full (now tails) (now heads) (now weights) (now x) (now y) (now boxes) (now route) ⌝ }
+    requires { ⌜ Full (rows (now tails) (now heads) (now weights) (now x) (now y) (now boxes) (now route)) ⌝ }
 {
     let mut chunk = [0u8; 4096];
     let mut ahead = Input { at: 0, end: 0 };

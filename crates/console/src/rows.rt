@@ -1,5 +1,7 @@
 // The console's rows, and what is lent of them.
-ghost use Rattle.console.specs.Rows.{Well};
+ghost use mathlib.Core.Path.{_≡_};
+ghost use lib.IntN.{pos};
+ghost use Rattle.console.specs.Rows.{rows, allOf, cleared, fresh};
 use replies::obey::Sizes;
 
 // How many places of each row are lent, from the first on.
@@ -22,7 +24,7 @@ pub struct State {
 
 // All places of each row are lent, and n and m are 0.
 pub fn start() -> State
-    ensures { λ r. ⌜ Well r ⌝ }
+    ensures { λ r. ⌜ r ≡ fresh ⌝ }
 {
     State {
         lent: Lent {
@@ -40,7 +42,9 @@ pub fn start() -> State
 }
 
 // Makes all places of a row 0.
-pub fn clear_counts(row: &mut [u32]) {
+pub fn clear_counts(row: &mut [u32])
+    ensures { λ _. ⌜ now (row .exit) ≡ allOf 0 (now (row .entry)) ⌝ }
+{
     let mut i = 0;
     while i < row.len() {
         row[i] = 0;
@@ -48,7 +52,9 @@ pub fn clear_counts(row: &mut [u32]) {
     }
 }
 
-pub fn clear_numbers(row: &mut [i32]) {
+pub fn clear_numbers(row: &mut [i32])
+    ensures { λ _. ⌜ now (row .exit) ≡ allOf (pos 0) (now (row .entry)) ⌝ }
+{
     let mut i = 0;
     while i < row.len() {
         row[i] = 0;
@@ -65,7 +71,9 @@ pub fn clear_rows(
     y: &mut [i32],
     boxes: &mut [i32],
     route: &mut [u32],
-) {
+)
+    ensures { λ _. ⌜ rows (now (tails .exit)) (now (heads .exit)) (now (weights .exit)) (now (x .exit)) (now (y .exit)) (now (boxes .exit)) (now (route .exit)) ≡ cleared (rows (now (tails .entry)) (now (heads .entry)) (now (weights .entry)) (now (x .entry)) (now (y .entry)) (now (boxes .entry)) (now (route .entry))) ⌝ }
+{
     clear_counts(tails);
     clear_counts(heads);
     clear_counts(weights);

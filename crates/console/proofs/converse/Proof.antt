@@ -1,16 +1,17 @@
 -- `console::converse` meets its contract. Assumes nothing.
-use Prim.Native.Nat.{_-_}
-use mathlib.Core.Path.{_≡_}
+use mathlib.Core.Path.{_≡_, refl}
 use native.Mathlib.Omega.{arith}
 use lib.ListN.{length}
 use borrow.Author.Needs.{needs}
-use Rattle.console.specs.Rows.{Well, Full}
+use Rattle.console.specs.Rows.{rows, Well, Full}
+use Rattle.console.specs.Input.{Ahead}
+use Rattle.console.proofs.StateLaws.{well-fresh}
 use Rattle.console.proofs.converse.Statement.{statement}
 use Rattle.console.proofs.converse.Tie as tie
 
 abbrev Inv-loop : tie.InvT-loop
 Inv-loop line₀ page₀ tails₀ heads₀ weights₀ x₀ y₀ boxes₀ route₀ chunk₀ ahead₀ state₀ turns₀ line page tails heads weights x y boxes route chunk ahead state turns =
-    Well state × Full tails heads weights x y boxes route × (length line ≡ length line₀)
+    Well state × Full (rows tails heads weights x y boxes route) × Ahead ahead × (length line ≡ length line₀)
 
 abbrev μ-loop : tie.MeasureT-loop
 μ-loop line₀ page₀ tails₀ heads₀ weights₀ x₀ y₀ boxes₀ route₀ chunk₀ ahead₀ state₀ turns₀ line page tails heads weights x y boxes route chunk ahead state turns =
@@ -20,7 +21,7 @@ start-requires : tie.Need-start-requires Inv-loop μ-loop
 start-requires c κs = search needs
 
 loop-holds : tie.Need-loop-holds Inv-loop μ-loop
-loop-holds c = search needs
+loop-holds c = (rw (c .start .ensures) well-fresh, c .before .before .before .before .before .before .pre, record { at = omega arith; end = omega arith }, refl)
 
 read-line-requires : tie.Need-read-line-requires Inv-loop μ-loop
 read-line-requires c κs = search needs
@@ -48,7 +49,7 @@ loop-again c =
     let heads = c .before .before .before .before .before .before .before .before .before .before .before .heads .given in
     let tails = c .before .before .before .before .before .before .before .before .before .before .before .before .before .tails .given in
     let line = c .before .before .before .before .before .before .before .before .before .before .before .before .before .before .before .before .before .before .before .before .before .before .before .before .before .before .line .given in
-    (c .before .before .before .before .before .before .before .before .before .before .before .before .before .before .answer .ensures, record { tails = omega arith; heads = omega arith; weights = omega arith; x = omega arith; y = omega arith; boxes = omega arith; route = omega arith }, omega arith)
+    (c .before .before .before .before .before .before .before .before .before .before .before .before .before .before .answer .ensures, record { tails = omega arith; heads = omega arith; weights = omega arith; x = omega arith; y = omega arith; boxes = omega arith; route = omega arith }, c .before .before .before .before .before .before .before .before .before .before .before .before .before .before .before .before .before .before .before .before .before .before .before .before .before .before .before .read-line .ensures .1, omega arith)
 
 same-length : tie.Need-same-length Inv-loop μ-loop
 same-length c = search needs

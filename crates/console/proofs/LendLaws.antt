@@ -1,0 +1,138 @@
+-- Laws of lines that ask for `lend`. Assumes nothing.
+use Prim.Native.Nat.{ℕ, _≤_}
+use mathlib.Core.Path.{_≡_, refl, sym, ap, subst, _∙_}
+use mathlib.Core.List.{List, [], _∷_}
+use mathlib.Core.Bool.{Bool, true, false, cond}
+use native.Mathlib.Omega.{arith}
+use lib.Dec.{leb, ltb, leb→le}
+use lib.ListN.{length, take, drop}
+use lib.Seq.{drop-drop}
+use Rattle.commands.specs.Names.{verbOf, takesWords, rowOf, placesOf, signedRow}
+use Rattle.commands.specs.Words.{wordsOf, word, afterWord}
+use Rattle.commands.specs.Commands.{number, valuesJudged, onceGood, withNumber, withPair, withRow, lendAsked, showAsked, asked, pairIn, lineJudged, commandOf}
+use Rattle.commands.specs.declared.Fault.{Fault}
+use Rattle.commands.specs.declared.Fault.the-variants.{LongLine, WordCount, LongRow}
+use Rattle.commands.specs.declared.Call.the-variants as call
+use Rattle.commands.specs.declared.Shown.the-variants.{First}
+use Rattle.commands.specs.declared.Request.{Request}
+use Rattle.commands.specs.declared.Request.the-variants as request
+use Rattle.commands.specs.declared.Command.{Command}
+use Rattle.commands.specs.declared.Command.the-variants.{Faulty, Lend, Fresh, Other}
+use Rattle.commands.specs.declared.arguments.Pair.{Pair}
+use Rattle.commands.specs.declared.arguments.Pair.the-variants as pair
+use Rattle.commands.specs.declared.faults.Judged.{Judged}
+use Rattle.commands.specs.declared.faults.Judged.the-variants.{Good, Bad}
+use Rattle.commands.specs.declared.numbers.Count.{Count}
+use Rattle.commands.specs.declared.numbers.Count.the-variants as count
+use Rattle.commands.specs.declared.verbs.Verb.{Verb}
+use Rattle.commands.specs.declared.verbs.Verb.the-variants as verb
+use Rattle.commands.specs.declared.verbs.Row.{Row}
+use Rattle.commands.specs.declared.verbs.RowName.{RowName}
+use Rattle.commands.specs.declared.verbs.RowName.the-variants.{Known, Unknown}
+use Rattle.commands.proofs.WordLaws.{words-after}
+use Rattle.console.specs.Rows.{Within}
+use Rattle.console.specs.Lending.{lentIn}
+use Rattle.console.specs.Input.{askedBy}
+use Rattle.console.specs.declared.rows.Lent.{Lent}
+use Rattle.console.proofs.StateLaws.{within-lent}
+
+-- what a command says of the words after a line's first two
+abbrev Promised : List (List ℕ) → Command → Type 0
+Promised values (Lend row) = (length values ≤ placesOf row) × (valuesJudged (signedRow row) values ≡ Good)
+Promised values (Faulty f) = record {}
+Promised values Fresh = record {}
+Promised values (Other r) = record {}
+
+module _ (values : List (List ℕ)) where
+  once-good : (j : Judged) (c : Command) → Promised values c → Promised values (onceGood j c)
+  unfolding onceGood
+  once-good Good c p = p
+  once-good (Bad f) c p = record {}
+
+  with-number : (n : Count) (r : ℕ → Request) → Promised values (withNumber n (λ v. Other (r v)))
+  unfolding withNumber
+  with-number (count.Is v) r = record {}
+  with-number (count.Not f) r = record {}
+
+  with-pair : (n : Pair) (r : ℕ → ℕ → Request) → Promised values (withPair n (λ a b. Other (r a b)))
+  unfolding withPair
+  with-pair (pair.Are a b) r = record {}
+  with-pair (pair.Not f) r = record {}
+
+  with-row : (n : RowName) (go : Row → Command) → ((row : Row) → Promised values (go row)) → Promised values (withRow n go)
+  unfolding withRow
+  with-row (Known row) go p = p row
+  with-row Unknown go p = record {}
+
+  lend-row : (row : Row) → Promised values (lendAsked values row)
+  unfolding lendAsked onceGood
+  lend-row row = by-count (leb (length values) (placesOf row)) refl (valuesJudged (signedRow row) values) refl
+    where
+      by-count : (z : Bool) → leb (length values) (placesOf row) ≡ z → (j : Judged) → valuesJudged (signedRow row) values ≡ j
+          → Promised values (cond z (onceGood j (Lend row)) (Faulty LongRow))
+      by-count true h Good e = (leb→le _ _ (rw h tt), e)
+      by-count true h (Bad f) e = record {}
+      by-count false h j e = record {}
+
+  show-row : (ws : List (List ℕ)) (row : Row) → Promised values (showAsked ws row)
+  unfolding showAsked
+  show-row [] row = record {}
+  show-row (k ∷ more) row = with-number (number k) (λ v. request.Show row (First v))
+
+  verb-promised : (v : Verb) (ws : List (List ℕ)) → drop 1 ws ≡ values → Promised values (asked v ws)
+  unfolding asked
+  verb-promised verb.N ws e = with-number (number (word 0 ws)) request.SetN
+  verb-promised verb.M ws e = with-number (number (word 0 ws)) request.SetM
+  verb-promised verb.Lend ws e = with-row (rowOf (word 0 ws)) (lendAsked (drop 1 ws)) (λ row. rw e (lend-row row))
+  verb-promised verb.Show ws e = with-row (rowOf (word 0 ws)) (showAsked (drop 1 ws)) (show-row (drop 1 ws))
+  verb-promised verb.Gr ws e = record {}
+  verb-promised verb.Co ws e = record {}
+  verb-promised verb.Build ws e = record {}
+  verb-promised verb.Check ws e = record {}
+  verb-promised verb.Update ws e = with-pair (pairIn ws) (λ a b. request.Call (call.Update a b))
+  verb-promised verb.Search ws e = with-pair (pairIn ws) (λ a b. request.Call (call.Search a b))
+  verb-promised verb.Boxed ws e = with-pair (pairIn ws) (λ a b. request.Call (call.Boxed a b))
+  verb-promised verb.Fresh ws e = record {}
+  verb-promised verb.Help ws e = record {}
+  verb-promised verb.NoVerb ws e = record {}
+
+  by-words : (z : Bool) (c : Command) → Promised values c → Promised values (cond z c (Faulty WordCount))
+  by-words true c p = p
+  by-words false c p = record {}
+
+-- the words of a line after the first two
+values-of : (line : List ℕ) → drop 1 (drop 1 (wordsOf line)) ≡ drop 2 (wordsOf line)
+values-of line = drop-drop 1 1 (wordsOf line)
+
+command-promised : (line : List ℕ) → Promised (drop 2 (wordsOf line)) (commandOf line)
+unfolding commandOf
+command-promised line =
+    let ws = wordsOf line in
+    let v = verbOf (word 0 ws) in
+    once-good (drop 2 ws) (lineJudged line) _ (by-words (drop 2 ws) (takesWords v (length ws)) _ (verb-promised (drop 2 ws) v (drop 1 ws) (values-of line)))
+
+module _ (line more words : List ℕ) (p : more ≡ afterWord line) (q : words ≡ afterWord more) where
+  pub values-after : wordsOf words ≡ drop 2 (wordsOf line)
+  values-after = ap wordsOf q ∙ words-after more ∙ ap (λ (l : List ℕ). drop 1 (wordsOf l)) p ∙ ap (drop 1) (words-after line) ∙ values-of line
+
+  -- what `lend` finds in them
+  pub lend-ready : (asks row : Row) → commandOf line ≡ Lend asks → asks ≡ row
+      → (valuesJudged (signedRow row) (wordsOf words) ≡ Good) × (length (wordsOf words) ≤ placesOf row)
+  lend-ready asks row c e =
+      let p = subst (Promised (drop 2 (wordsOf line))) (c ∙ ap Lend e) (command-promised line) in
+      rw values-after (p .1, p .0)
+
+pub lend-within : (line : List ℕ) (row : Row) (lent : Lent) → commandOf line ≡ Lend row → Within lent → Within (lentIn row (length (drop 2 (wordsOf line))) lent)
+lend-within line row lent c w = within-lent row _ lent w (subst (Promised (drop 2 (wordsOf line))) c (command-promised line) .0)
+
+-- ---- a line that was heard
+
+no-lend : {A : Type 0} (f : Fault) (row : Row) → Faulty f ≡ Lend row → A
+no-lend f row e = let z : _≡_ {A = ℕ} 0 1 = cc in absurd (omega arith)
+
+pub lend-heard : (line words : List ℕ) (bytes : ℕ) (c : Command) (row : Row) → c ≡ askedBy line bytes → words ≡ take bytes line → c ≡ Lend row → commandOf words ≡ Lend row
+lend-heard line words bytes c row p q e = ap commandOf q ∙ by-room (ltb (length line) bytes) (sym p ∙ e)
+  where
+    by-room : (z : Bool) → cond z (Faulty LongLine) (commandOf (take bytes line)) ≡ Lend row → commandOf (take bytes line) ≡ Lend row
+    by-room true k = no-lend LongLine row k
+    by-room false k = k

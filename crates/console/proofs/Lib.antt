@@ -1,0 +1,5 @@
+mod InputLaws
+mod JudgedLaws
+mod LendLaws
+mod StateLaws
+mod StoreLaws
