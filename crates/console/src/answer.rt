@@ -13,10 +13,10 @@ use commands::Fault;
 use commands::Request;
 use commands::command_of;
 use files::page::PAGE;
-use replies::obey::Sizes;
-use replies::obey::obey;
 use replies::words::put_fault;
 use replies::words::put_ok;
+use requests::Sizes;
+use requests::obey;
 use scan::pieces::front;
 
 // What a line of so many bytes asks for.

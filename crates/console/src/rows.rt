@@ -2,7 +2,7 @@
 ghost use mathlib.Core.Path.{_≡_};
 ghost use lib.IntN.{pos};
 ghost use Rattle.console.specs.Rows.{rows, allOf, cleared, fresh};
-use replies::obey::Sizes;
+use requests::Sizes;
 
 // How many places of each row are lent, from the first on.
 pub struct Lent {

@@ -1,6 +1,4 @@
-// What the console replies: commands are done on the lent rows, and the reply is put on a page.
-pub mod calls;
-pub mod obey;
+// What the console replies: the line of each reply, put on a page.
+pub mod answers;
 pub mod showing;
-pub mod texts;
 pub mod words;

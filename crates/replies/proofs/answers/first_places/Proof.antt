@@ -1,9 +1,9 @@
--- `replies::calls::first_places` meets its contract. Assumes nothing.
+-- `replies::answers::first_places` meets its contract. Assumes nothing.
 use mathlib.Core.Path.{refl, sym}
 use native.Mathlib.Omega.{arith}
 use lib.Seq.{length-take-le, take-all}
-use Rattle.replies.proofs.calls.first_places.Statement.{statement}
-use Rattle.replies.proofs.calls.first_places.Tie as tie
+use Rattle.replies.proofs.answers.first_places.Statement.{statement}
+use Rattle.replies.proofs.answers.first_places.Tie as tie
 
 slice-aggregate-result : tie.Need-slice-aggregate-result
 slice-aggregate-result c = sym (length-take-le _ _ (omega arith))

@@ -1,7 +1,11 @@
--- `replies::texts::read_places` meets its contract. Assumes nothing.
+-- `requests::texts::read_places` meets its contract. Assumes nothing.
+use native.Mathlib.Omega.{arith}
+use mathlib.Core.Path.{refl}
+use Rattle.files.specs.Refusals.{noFileLine}
+use Rattle.requests.specs.Requests.{placesLine, text, unread, ReadsPlaces}
 use borrow.Author.Needs.{needs}
-use Rattle.replies.proofs.texts.read_places.Statement.{statement}
-use Rattle.replies.proofs.texts.read_places.Tie as tie
+use Rattle.requests.proofs.texts.read_places.Statement.{statement}
+use Rattle.requests.proofs.texts.read_places.Tie as tie
 
 after-word-requires : tie.Need-after-word-requires
 after-word-requires c κs = search needs
@@ -22,7 +26,7 @@ put-no-file-requires : tie.Need-put-no-file-requires
 put-no-file-requires c κs = search needs
 
 returns : tie.Need-returns
-returns c = search needs
+returns c = (record { held = unread; reply = noFileLine; says = ReadsPlaces.no-file refl; puts = c .put-no-file .ensures .0 }, omega arith)
 
 sub-read-co : tie.Need-sub-read-co
 sub-read-co c = search needs
@@ -38,11 +42,8 @@ part-read-co-end c =
 read-co-requires : tie.Need-read-co-requires
 read-co-requires c κs = search needs
 
-enum-told-2 : tie.Need-enum-told-2
-enum-told-2 c = search needs
-
-put-ok-requires : tie.Need-put-ok-requires
-put-ok-requires c κs = search needs
+put-places-requires : tie.Need-put-places-requires
+put-places-requires c κs = search needs
 
 same-length : tie.Need-same-length
 same-length c = search needs
@@ -51,22 +52,7 @@ same-length-2 : tie.Need-same-length-2
 same-length-2 c = search needs
 
 returns-2 : tie.Need-returns-2
-returns-2 c = search needs
-
-enum-known-reply : tie.Need-enum-known-reply
-enum-known-reply c = search needs
-
-put-refusal-requires : tie.Need-put-refusal-requires
-put-refusal-requires c κs = search needs
-
-same-length-3 : tie.Need-same-length-3
-same-length-3 c = search needs
-
-same-length-4 : tie.Need-same-length-4
-same-length-4 c = search needs
-
-returns-3 : tie.Need-returns-3
-returns-3 c = search needs
+returns-2 c = (record { held = text _; reply = placesLine _; says = ReadsPlaces.file _ refl (c .before .before .before .before .read-co .ensures); puts = c .put-places .ensures .0 }, omega arith)
 
 pub read-places-spec : {M : Type 1} → statement M
 read-places-spec =
@@ -83,13 +69,7 @@ read-places-spec =
     part-read-co-start
     part-read-co-end
     read-co-requires
-    enum-told-2
-    put-ok-requires
+    put-places-requires
     same-length
     same-length-2
-    returns-2
-    enum-known-reply
-    put-refusal-requires
-    same-length-3
-    same-length-4
-    returns-3)
+    returns-2)

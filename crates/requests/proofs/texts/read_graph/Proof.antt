@@ -1,7 +1,12 @@
--- `replies::texts::read_graph` meets its contract. Assumes nothing.
+-- `requests::texts::read_graph` meets its contract. Assumes nothing.
+use native.Mathlib.Omega.{arith}
+use mathlib.Core.Path.{refl}
+use Rattle.files.specs.Refusals.{noFileLine}
+use Rattle.requests.specs.Requests.{graphLine, text, unread, ReadsGraph}
+use Rattle.requests.proofs.RequestLaws.{graph-sizes}
 use borrow.Author.Needs.{needs}
-use Rattle.replies.proofs.texts.read_graph.Statement.{statement}
-use Rattle.replies.proofs.texts.read_graph.Tie as tie
+use Rattle.requests.proofs.texts.read_graph.Statement.{statement}
+use Rattle.requests.proofs.texts.read_graph.Tie as tie
 
 after-word-requires : tie.Need-after-word-requires
 after-word-requires c κs = search needs
@@ -22,7 +27,7 @@ put-no-file-requires : tie.Need-put-no-file-requires
 put-no-file-requires c κs = search needs
 
 returns : tie.Need-returns
-returns c = search needs
+returns c = (record { held = unread; reply = noFileLine; says = ReadsGraph.no-file refl; puts = c .put-no-file .ensures .0 }, omega arith)
 
 sub-read-gr : tie.Need-sub-read-gr
 sub-read-gr c = search needs
@@ -38,11 +43,8 @@ part-read-gr-end c =
 read-gr-requires : tie.Need-read-gr-requires
 read-gr-requires c κs = search needs
 
-enum-known-reply : tie.Need-enum-known-reply
-enum-known-reply c = search needs
-
-put-sizes-requires : tie.Need-put-sizes-requires
-put-sizes-requires c κs = search needs
+graph-done-requires : tie.Need-graph-done-requires
+graph-done-requires c κs = search needs
 
 same-length : tie.Need-same-length
 same-length c = search needs
@@ -54,25 +56,10 @@ same-length-3 : tie.Need-same-length-3
 same-length-3 c = search needs
 
 returns-2 : tie.Need-returns-2
-returns-2 c = search needs
-
-enum-known-reply-2 : tie.Need-enum-known-reply-2
-enum-known-reply-2 c = search needs
-
-put-refusal-requires : tie.Need-put-refusal-requires
-put-refusal-requires c κs = search needs
-
-same-length-4 : tie.Need-same-length-4
-same-length-4 c = search needs
-
-same-length-5 : tie.Need-same-length-5
-same-length-5 c = search needs
-
-same-length-6 : tie.Need-same-length-6
-same-length-6 c = search needs
-
-returns-3 : tie.Need-returns-3
-returns-3 c = search needs
+returns-2 c =
+    let done = c .graph-done in
+    let read = c .before .before .before .before .before .before .before .before .read-gr in
+    (record { held = text _; reply = graphLine (read .result); says = graph-sizes (done .ensures .0) (ReadsGraph.file (read .result) refl (read .ensures)); puts = done .ensures .1 .0 }, omega arith)
 
 pub read-graph-spec : {M : Type 1} → statement M
 read-graph-spec =
@@ -89,15 +76,8 @@ read-graph-spec =
     part-read-gr-start
     part-read-gr-end
     read-gr-requires
-    enum-known-reply
-    put-sizes-requires
+    graph-done-requires
     same-length
     same-length-2
     same-length-3
-    returns-2
-    enum-known-reply-2
-    put-refusal-requires
-    same-length-4
-    same-length-5
-    same-length-6
-    returns-3)
+    returns-2)

@@ -1,11 +1,11 @@
--- `replies::texts::put_sizes` meets its contract. Assumes nothing.
+-- `replies::answers::put_sizes` meets its contract. Assumes nothing.
 use native.Mathlib.Omega.{arith}
 use borrow.Author.Needs.{needs}
 use Rattle.scan.specs.Ascii.{bytes}
 use Rattle.files.proofs.PageLaws.{puts-both, puts-on}
 use Rattle.replies.specs.Replies.{sizesLine}
-use Rattle.replies.proofs.texts.put_sizes.Statement.{statement}
-use Rattle.replies.proofs.texts.put_sizes.Tie as tie
+use Rattle.replies.proofs.answers.put_sizes.Statement.{statement}
+use Rattle.replies.proofs.answers.put_sizes.Tie as tie
 
 slice-aggregate-put-after : tie.Need-slice-aggregate-put-after
 slice-aggregate-put-after c = search needs

@@ -1,4 +1,4 @@
--- `replies::calls::put_answer` meets its contract. Assumes nothing.
+-- `replies::answers::put_answer` meets its contract. Assumes nothing.
 use mathlib.Core.Path.{ap}
 use native.Mathlib.Omega.{arith}
 use borrow.Author.Needs.{needs}
@@ -7,8 +7,8 @@ use Rattle.files.specs.Decimal.{countsText}
 use Rattle.files.proofs.PageLaws.{puts-both, puts-on, puts-same, puts-case}
 use Rattle.search.specs.declared.Answer.{Answer}
 use Rattle.replies.specs.Replies.{answerLine}
-use Rattle.replies.proofs.calls.put_answer.Statement.{statement}
-use Rattle.replies.proofs.calls.put_answer.Tie as tie
+use Rattle.replies.proofs.answers.put_answer.Statement.{statement}
+use Rattle.replies.proofs.answers.put_answer.Tie as tie
 
 enum-known-answer : tie.Need-enum-known-answer
 enum-known-answer c = search needs

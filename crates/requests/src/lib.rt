@@ -1,14 +1,19 @@
-// A request is met, and its reply put on the page.
+// What the console does: a request is met with just the places that are lent, and its reply is put on a page.
+pub mod calls;
+pub mod texts;
+
 ghost use Prim.Native.Nat.{_≤_};
 ghost use Rattle.replies.specs.Rows.{Short};
+ghost use Rattle.requests.specs.Desk.{desk};
+ghost use Rattle.requests.specs.Requests.{Meets, Replied};
 use crate::calls::make;
-use crate::showing::show_row;
 use crate::texts::read_graph;
 use crate::texts::read_places;
-use crate::words::put_help;
-use crate::words::put_ok;
 use commands::Request;
 use files::page::PAGE;
+use replies::showing::show_row;
+use replies::words::put_help;
+use replies::words::put_ok;
 
 // The numbers that are handed in with the rows.
 pub struct Sizes {
@@ -37,6 +42,7 @@ pub fn obey(
     route: &mut [u32],
 ) -> Done
     requires { ⌜ Short (now tails) (now heads) (now weights) (now x) (now y) (now boxes) (now route) ⌝ }
+    ensures { λ r. ⌜ Replied (λ held reply. Meets held (desk sizes (now (tails .entry)) (now (heads .entry)) (now (weights .entry)) (now (x .entry)) (now (y .entry)) (now (boxes .entry)) (now (route .entry))) request reply (desk (r .sizes) (now (tails .exit)) (now (heads .exit)) (now (weights .exit)) (now (x .exit)) (now (y .exit)) (now (boxes .exit)) (now (route .exit)))) (now (page .entry)) (r .end) (now (page .exit)) ⌝ }
     ensures { λ r. ⌜ r .end ≤ 368640 ⌝ }
 {
     match request {

@@ -1,0 +1,57 @@
+// The answers that hold numbers: of a search, and of a graph file.
+ghost use Prim.Native.Nat.{_≤_};
+ghost use mathlib.Core.Path.{_≡_};
+ghost use lib.ListN.{length, take};
+ghost use Rattle.files.specs.Page.{Puts};
+ghost use Rattle.replies.specs.Replies.{sizesLine, answerLine};
+use crate::showing::put_counts;
+use files::page::PAGE;
+use files::page::put;
+use files::page::put_after;
+use files::refusals::put_refusal;
+use search::Answer;
+
+// The first k places of a row, or all where there are fewer.
+fn first_places(row: &[u32], k: usize) -> &[u32]
+    ensures { λ r. ⌜ now r ≡ take k (now (row .entry)) ⌝ }
+    ensures { λ r. ⌜ length (now r) ≤ length (now (row .entry)) ⌝ }
+{
+    if k < row.len() {
+        return &row[..k];
+    }
+    row
+}
+
+// `ok`, length, arcs, settled and the route's arcs; or why a search was refused.
+pub fn put_answer(page: &mut [u8; PAGE], answer: Answer, route: &[u32]) -> usize
+    requires { ⌜ length (now route) ≤ 16384 ⌝ }
+    ensures { λ r. ⌜ Puts (answerLine answer (now (route .entry))) 0 (now (page .entry)) r (now (page .exit)) ⌝ }
+    ensures { λ r. ⌜ r ≤ 368640 ⌝ }
+{
+    match answer {
+        Answer::Found {
+            length,
+            arcs,
+            settled,
+        } => {
+            let a = put_after(page, 0, b"ok ", length);
+            let b = put_after(page, a, b" ", arcs);
+            let c = put_after(page, b, b" ", settled);
+            let d = put_counts(page, c, first_places(route, arcs as usize));
+            return put(page, d, b"\n");
+        }
+        Answer::Refused(r) => {
+            return put_refusal(page, r);
+        }
+    }
+}
+
+// `ok` and the numbers n and m of a graph file.
+pub fn put_sizes(page: &mut [u8; PAGE], n: u32, m: u32) -> usize
+    ensures { λ r. ⌜ Puts (sizesLine n m) 0 (now (page .entry)) r (now (page .exit)) ⌝ }
+    ensures { λ r. ⌜ r ≤ 1000 ⌝ }
+{
+    let a = put_after(page, 0, b"ok ", n);
+    let b = put_after(page, a, b" ", m);
+    put(page, b, b"\n")
+}

@@ -1,0 +1,71 @@
+// The calls on a network that has been lent.
+ghost use Prim.Native.Nat.{_≤_};
+ghost use lib.ListN.{length};
+ghost use Rattle.requests.specs.Desk.{desk};
+ghost use Rattle.requests.specs.Requests.{Makes, Replied};
+use crate::Sizes;
+use commands::Call;
+use files::page::PAGE;
+use replies::answers::put_answer;
+use replies::words::put_judged;
+
+// Makes a call and puts its reply.
+pub fn make(
+    page: &mut [u8; PAGE],
+    call: Call,
+    sizes: Sizes,
+    tails: &[u32],
+    heads: &[u32],
+    weights: &mut [u32],
+    x: &[i32],
+    y: &[i32],
+    boxes: &mut [i32],
+    route: &mut [u32],
+) -> usize
+    requires { ⌜ length (now route) ≤ 16384 ⌝ }
+    ensures { λ r. ⌜ Replied (λ held reply. Makes (desk sizes (now (tails .entry)) (now (heads .entry)) (now (weights .entry)) (now (x .entry)) (now (y .entry)) (now (boxes .entry)) (now (route .entry))) call reply (desk sizes (now (tails .entry)) (now (heads .entry)) (now (weights .exit)) (now (x .entry)) (now (y .entry)) (now (boxes .exit)) (now (route .exit)))) (now (page .entry)) r (now (page .exit)) ⌝ }
+    ensures { λ r. ⌜ r ≤ 368640 ⌝ }
+{
+    let n = sizes.n;
+    let m = sizes.m;
+    match call {
+        Call::Build => {
+            return put_judged(
+                page,
+                boxwork::build(n, m, tails, heads, weights, x, y, boxes),
+            );
+        }
+        Call::Check => {
+            return put_judged(
+                page,
+                boxwork::check(n, m, tails, heads, weights, x, y, boxes),
+            );
+        }
+        Call::Update(arc, weight) => {
+            return put_judged(
+                page,
+                boxwork::update(n, m, tails, heads, weights, x, y, boxes, arc, weight),
+            );
+        }
+        Call::Search(s, t) => {
+            let answer = search::search(n, m, tails, heads, weights, s, t, route);
+            return put_answer(page, answer, route);
+        }
+        Call::Boxed(s, t) => {
+            let answer = search::search_boxed(
+                n,
+                m,
+                tails,
+                heads,
+                weights,
+                x,
+                y,
+                boxes,
+                s,
+                t,
+                route,
+            );
+            return put_answer(page, answer, route);
+        }
+    }
+}
