@@ -1,5 +1,2 @@
+mod HeardLaws
 mod InputLaws
-mod JudgedLaws
-mod LendLaws
-mod StateLaws
-mod StoreLaws

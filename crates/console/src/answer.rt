@@ -1,18 +1,19 @@
 // A line is answered: its reply is put on the page.
 ghost use mathlib.Core.Path.{_≡_};
 ghost use lib.ListN.{take};
-ghost use Rattle.console.specs.Rows.{rows, Full, Well, Within};
+ghost use Rattle.lending.specs.Rows.{rows, Full, Within};
+ghost use Rattle.console.specs.State.{Well};
 ghost use Rattle.console.specs.Input.{askedBy};
-use crate::lending::lend;
-use crate::rows::Lent;
-use crate::rows::State;
-use crate::rows::clear_rows;
-use crate::rows::start;
+use crate::state::State;
+use crate::state::start;
 use commands::Command;
 use commands::Fault;
 use commands::Request;
 use commands::command_of;
 use files::page::PAGE;
+use lending::lend;
+use lending::rows::Lent;
+use lending::rows::clear_rows;
 use replies::words::put_fault;
 use replies::words::put_ok;
 use requests::Sizes;

@@ -1,15 +1,14 @@
 // The route box at a terminal or on a pipe: one command a line, one line as its reply.
 mod answer;
 mod input;
-mod lending;
-mod rows;
+mod state;
 
 ghost use Prim.Native.Nat.{_<_};
-ghost use Rattle.console.specs.Rows.{rows, Full};
+ghost use Rattle.lending.specs.Rows.{rows, Full};
 use crate::answer::answer;
 use crate::input::Input;
 use crate::input::read_line;
-use crate::rows::start;
+use crate::state::start;
 use files::page::PAGE;
 use files::print::out;
 

@@ -3,9 +3,10 @@ use mathlib.Core.Path.{_≡_, refl}
 use native.Mathlib.Omega.{arith}
 use lib.ListN.{length}
 use borrow.Author.Needs.{needs}
-use Rattle.console.specs.Rows.{rows, Well, Full}
+use Rattle.lending.specs.Rows.{rows, Full}
+use Rattle.lending.proofs.WithinLaws.{within-all}
+use Rattle.console.specs.State.{Well}
 use Rattle.console.specs.Input.{Ahead}
-use Rattle.console.proofs.StateLaws.{well-fresh}
 use Rattle.console.proofs.converse.Statement.{statement}
 use Rattle.console.proofs.converse.Tie as tie
 
@@ -21,7 +22,7 @@ start-requires : tie.Need-start-requires Inv-loop μ-loop
 start-requires c κs = search needs
 
 loop-holds : tie.Need-loop-holds Inv-loop μ-loop
-loop-holds c = (rw (c .start .ensures) well-fresh, c .before .before .before .before .before .before .pre, record { at = omega arith; end = omega arith }, refl)
+loop-holds c = (rw (c .start .ensures) (record { lent = within-all; end = omega arith }), c .before .before .before .before .before .before .pre, record { at = omega arith; end = omega arith }, refl)
 
 read-line-requires : tie.Need-read-line-requires Inv-loop μ-loop
 read-line-requires c κs = search needs

@@ -1,7 +1,8 @@
 -- `console::answer::answer` meets its contract. Assumes nothing.
 use native.Mathlib.Omega.{arith}
-use Rattle.console.proofs.LendLaws.{lend-heard, lend-within}
-use Rattle.console.proofs.StateLaws.{well-fresh}
+use Rattle.lending.proofs.LendLaws.{lend-within}
+use Rattle.lending.proofs.WithinLaws.{within-all}
+use Rattle.console.proofs.HeardLaws.{lend-heard}
 use borrow.Author.Needs.{needs}
 use Rattle.console.proofs.answer.answer.Statement.{statement}
 use Rattle.console.proofs.answer.answer.Tie as tie
@@ -96,7 +97,7 @@ same-length-14 : tie.Need-same-length-14
 same-length-14 c = search needs
 
 returns-4 : tie.Need-returns-4
-returns-4 c = record { lent = rw (c .before .before .before .before .start .ensures) (well-fresh .lent); end = omega arith }
+returns-4 c = record { lent = rw (c .before .before .before .before .start .ensures) within-all; end = omega arith }
 
 enum-known-command-3 : tie.Need-enum-known-command-3
 enum-known-command-3 c = search needs

@@ -12,8 +12,8 @@ use Rattle.commands.specs.declared.numbers.Signed.{Signed}
 use Rattle.commands.specs.declared.numbers.Signed.the-variants as signed
 use Rattle.commands.specs.declared.verbs.Row.{Row}
 use Rattle.commands.specs.declared.verbs.Row.the-variants as row
-use Rattle.console.specs.Rows.{Rows, rows, lents}
-use Rattle.console.specs.declared.rows.Lent.{Lent}
+use Rattle.lending.specs.Rows.{Rows, rows, lents}
+use Rattle.lending.specs.declared.rows.Lent.{Lent}
 
 -- the number that was read; a word that is none never gets here
 unfoldable pub countIn : Count → ℕ

@@ -1,8 +1,7 @@
 // The console's rows, and what is lent of them.
 ghost use mathlib.Core.Path.{_≡_};
 ghost use lib.IntN.{pos};
-ghost use Rattle.console.specs.Rows.{rows, allOf, cleared, fresh};
-use requests::Sizes;
+ghost use Rattle.lending.specs.Rows.{rows, allLent, allOf, cleared};
 
 // How many places of each row are lent, from the first on.
 pub struct Lent {
@@ -15,29 +14,18 @@ pub struct Lent {
     pub route: usize,
 }
 
-// What is lent, the numbers n and m, and where the last reply ends on the page.
-pub struct State {
-    pub lent: Lent,
-    pub sizes: Sizes,
-    pub end: usize,
-}
-
-// All places of each row are lent, and n and m are 0.
-pub fn start() -> State
-    ensures { λ r. ⌜ r ≡ fresh ⌝ }
+// All places of each row are lent.
+pub fn all_lent() -> Lent
+    ensures { λ r. ⌜ r ≡ allLent ⌝ }
 {
-    State {
-        lent: Lent {
-            tails: 4096,
-            heads: 4096,
-            weights: 4096,
-            x: 1024,
-            y: 1024,
-            boxes: 16384,
-            route: 1024,
-        },
-        sizes: Sizes { n: 0, m: 0 },
-        end: 0,
+    Lent {
+        tails: 4096,
+        heads: 4096,
+        weights: 4096,
+        x: 1024,
+        y: 1024,
+        boxes: 16384,
+        route: 1024,
     }
 }
 

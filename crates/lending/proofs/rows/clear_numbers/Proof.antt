@@ -1,12 +1,12 @@
--- `console::rows::clear_numbers` meets its contract. Assumes nothing.
+-- `lending::rows::clear_numbers` meets its contract. Assumes nothing.
 use Prim.Native.Nat.{_-_}
 use lib.IntN.{pos}
 use native.Mathlib.Omega.{arith}
 use lib.ListN.{length, length-set}
 use borrow.Author.Needs.{needs}
-use Rattle.console.proofs.StoreLaws.{Clearing, clear-more, clear-end}
-use Rattle.console.proofs.rows.clear_numbers.Statement.{statement}
-use Rattle.console.proofs.rows.clear_numbers.Tie as tie
+use Rattle.lending.proofs.StoreLaws.{Clearing, clear-more, clear-end}
+use Rattle.lending.proofs.rows.clear_numbers.Statement.{statement}
+use Rattle.lending.proofs.rows.clear_numbers.Tie as tie
 
 abbrev Inv-loop : tie.InvT-loop
 Inv-loop row₀ i₀ row i = Clearing (pos 0) row₀ row i

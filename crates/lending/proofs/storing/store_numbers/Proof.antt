@@ -1,4 +1,4 @@
--- `console::lending::store_numbers` meets its contract. Assumes nothing.
+-- `lending::storing::store_numbers` meets its contract. Assumes nothing.
 use Prim.Native.Nat.{_+_, _-_, _<_}
 use mathlib.Core.Path.{_≡_, sym, _∙_}
 use mathlib.Core.Bool.{true}
@@ -8,12 +8,12 @@ use mir.Syntax.{w32}
 use mir.Val.{toZ, ofZ}
 use Rattle.scan.specs.Numbers.{integerOf}
 use Rattle.commands.specs.Numbers.{signedOf}
-use Rattle.console.specs.Lending.{wholeIn}
-use Rattle.console.proofs.StoreLaws.{Storing, storing-start, storing-more, storing-end, word-ahead, judged-here, all-passed}
-use Rattle.console.proofs.JudgedLaws.{whole-read, whole-value}
+use Rattle.lending.specs.Lending.{wholeIn}
+use Rattle.lending.proofs.StoreLaws.{Storing, storing-start, storing-more, storing-end, word-ahead, judged-here, all-passed}
+use Rattle.lending.proofs.JudgedLaws.{whole-read, whole-value}
 use borrow.Author.Needs.{needs}
-use Rattle.console.proofs.lending.store_numbers.Statement.{statement}
-use Rattle.console.proofs.lending.store_numbers.Tie as tie
+use Rattle.lending.proofs.storing.store_numbers.Statement.{statement}
+use Rattle.lending.proofs.storing.store_numbers.Tie as tie
 
 abbrev Inv-loop : tie.InvT-loop
 Inv-loop row₀ words at₀ i₀ row at i = Storing (λ w. wholeIn (signedOf (integerOf w))) words row₀ row at i

@@ -13,9 +13,9 @@ use Rattle.commands.specs.Words.{wordsOf}
 use Rattle.commands.specs.Commands.{valueJudged, valuesJudged}
 use Rattle.commands.specs.declared.faults.Judged.the-variants.{Good}
 use Rattle.commands.proofs.WordLaws.{words-turn, words-end}
-use Rattle.console.specs.Rows.{allOf}
-use Rattle.console.specs.Lending.{stored}
-use Rattle.console.proofs.JudgedLaws.{word-good}
+use Rattle.lending.specs.Rows.{allOf}
+use Rattle.lending.specs.Lending.{stored}
+use Rattle.lending.proofs.JudgedLaws.{word-good}
 
 -- one value more
 store-more : {A : Type 0} (values old : List A) (i : ℕ) (v : A) → length values ≡ i → i < length old

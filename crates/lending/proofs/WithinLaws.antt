@@ -4,12 +4,12 @@ use native.Mathlib.Omega.{arith}
 use Rattle.commands.specs.Names.{placesOf}
 use Rattle.commands.specs.declared.verbs.Row.{Row}
 use Rattle.commands.specs.declared.verbs.Row.the-variants as row
-use Rattle.console.specs.Rows.{Within, Well, fresh}
-use Rattle.console.specs.Lending.{lentIn}
-use Rattle.console.specs.declared.rows.Lent.{Lent}
+use Rattle.lending.specs.Rows.{Within, allLent}
+use Rattle.lending.specs.Lending.{lentIn}
+use Rattle.lending.specs.declared.rows.Lent.{Lent}
 
-pub well-fresh : Well fresh
-well-fresh = record { lent = record { tails = omega arith; heads = omega arith; weights = omega arith; x = omega arith; y = omega arith; boxes = omega arith; route = omega arith }; end = omega arith }
+pub within-all : Within allLent
+within-all = record { tails = omega arith; heads = omega arith; weights = omega arith; x = omega arith; y = omega arith; boxes = omega arith; route = omega arith }
 
 pub within-lent : (row : Row) (k : ℕ) (lent : Lent) → Within lent → k ≤ placesOf row → Within (lentIn row k lent)
 unfolding lentIn

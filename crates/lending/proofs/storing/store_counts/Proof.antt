@@ -1,16 +1,16 @@
--- `console::lending::store_counts` meets its contract. Assumes nothing.
+-- `lending::storing::store_counts` meets its contract. Assumes nothing.
 use Prim.Native.Nat.{_+_, _-_, _<_}
 use mathlib.Core.Path.{sym, _∙_}
 use mathlib.Core.Bool.{false}
 use native.Mathlib.Omega.{arith}
 use lib.ListN.{length}
 use Rattle.commands.specs.Commands.{number}
-use Rattle.console.specs.Lending.{countIn}
-use Rattle.console.proofs.StoreLaws.{Storing, storing-start, storing-more, storing-end, word-ahead, judged-here, all-passed}
-use Rattle.console.proofs.JudgedLaws.{count-read, count-value}
+use Rattle.lending.specs.Lending.{countIn}
+use Rattle.lending.proofs.StoreLaws.{Storing, storing-start, storing-more, storing-end, word-ahead, judged-here, all-passed}
+use Rattle.lending.proofs.JudgedLaws.{count-read, count-value}
 use borrow.Author.Needs.{needs}
-use Rattle.console.proofs.lending.store_counts.Statement.{statement}
-use Rattle.console.proofs.lending.store_counts.Tie as tie
+use Rattle.lending.proofs.storing.store_counts.Statement.{statement}
+use Rattle.lending.proofs.storing.store_counts.Tie as tie
 
 abbrev Inv-loop : tie.InvT-loop
 Inv-loop row₀ words at₀ i₀ row at i = Storing (λ w. countIn (number w)) words row₀ row at i

@@ -1,7 +1,7 @@
--- `console::rows::clear_rows` meets its contract. Assumes nothing.
+-- `lending::rows::clear_rows` meets its contract. Assumes nothing.
 use borrow.Author.Needs.{needs}
-use Rattle.console.proofs.rows.clear_rows.Statement.{statement}
-use Rattle.console.proofs.rows.clear_rows.Tie as tie
+use Rattle.lending.proofs.rows.clear_rows.Statement.{statement}
+use Rattle.lending.proofs.rows.clear_rows.Tie as tie
 
 clear-counts-requires : tie.Need-clear-counts-requires
 clear-counts-requires c κs = search needs

@@ -1,17 +1,15 @@
 -- Laws of lines that ask for `lend`. Assumes nothing.
 use Prim.Native.Nat.{ℕ, _≤_}
-use mathlib.Core.Path.{_≡_, refl, sym, ap, subst, _∙_}
+use mathlib.Core.Path.{_≡_, refl, ap, subst, _∙_}
 use mathlib.Core.List.{List, [], _∷_}
 use mathlib.Core.Bool.{Bool, true, false, cond}
-use native.Mathlib.Omega.{arith}
-use lib.Dec.{leb, ltb, leb→le}
-use lib.ListN.{length, take, drop}
+use lib.Dec.{leb, leb→le}
+use lib.ListN.{length, drop}
 use lib.Seq.{drop-drop}
 use Rattle.commands.specs.Names.{verbOf, takesWords, rowOf, placesOf, signedRow}
 use Rattle.commands.specs.Words.{wordsOf, word, afterWord}
 use Rattle.commands.specs.Commands.{number, valuesJudged, onceGood, withNumber, withPair, withRow, lendAsked, showAsked, asked, pairIn, lineJudged, commandOf}
-use Rattle.commands.specs.declared.Fault.{Fault}
-use Rattle.commands.specs.declared.Fault.the-variants.{LongLine, WordCount, LongRow}
+use Rattle.commands.specs.declared.Fault.the-variants.{WordCount, LongRow}
 use Rattle.commands.specs.declared.Call.the-variants as call
 use Rattle.commands.specs.declared.Shown.the-variants.{First}
 use Rattle.commands.specs.declared.Request.{Request}
@@ -30,11 +28,10 @@ use Rattle.commands.specs.declared.verbs.Row.{Row}
 use Rattle.commands.specs.declared.verbs.RowName.{RowName}
 use Rattle.commands.specs.declared.verbs.RowName.the-variants.{Known, Unknown}
 use Rattle.commands.proofs.WordLaws.{words-after}
-use Rattle.console.specs.Rows.{Within}
-use Rattle.console.specs.Lending.{lentIn}
-use Rattle.console.specs.Input.{askedBy}
-use Rattle.console.specs.declared.rows.Lent.{Lent}
-use Rattle.console.proofs.StateLaws.{within-lent}
+use Rattle.lending.specs.Rows.{Within}
+use Rattle.lending.specs.Lending.{lentIn}
+use Rattle.lending.specs.declared.rows.Lent.{Lent}
+use Rattle.lending.proofs.WithinLaws.{within-lent}
 
 -- what a command says of the words after a line's first two
 abbrev Promised : List (List ℕ) → Command → Type 0
@@ -124,15 +121,3 @@ module _ (line more words : List ℕ) (p : more ≡ afterWord line) (q : words �
 
 pub lend-within : (line : List ℕ) (row : Row) (lent : Lent) → commandOf line ≡ Lend row → Within lent → Within (lentIn row (length (drop 2 (wordsOf line))) lent)
 lend-within line row lent c w = within-lent row _ lent w (subst (Promised (drop 2 (wordsOf line))) c (command-promised line) .0)
-
--- ---- a line that was heard
-
-no-lend : {A : Type 0} (f : Fault) (row : Row) → Faulty f ≡ Lend row → A
-no-lend f row e = let z : _≡_ {A = ℕ} 0 1 = cc in absurd (omega arith)
-
-pub lend-heard : (line words : List ℕ) (bytes : ℕ) (c : Command) (row : Row) → c ≡ askedBy line bytes → words ≡ take bytes line → c ≡ Lend row → commandOf words ≡ Lend row
-lend-heard line words bytes c row p q e = ap commandOf q ∙ by-room (ltb (length line) bytes) (sym p ∙ e)
-  where
-    by-room : (z : Bool) → cond z (Faulty LongLine) (commandOf (take bytes line)) ≡ Lend row → commandOf (take bytes line) ≡ Lend row
-    by-room true k = no-lend LongLine row k
-    by-room false k = k

@@ -1,11 +1,11 @@
--- `console::lending::lend` meets its contract. Assumes nothing.
+-- `lending::lend` meets its contract. Assumes nothing.
 use native.Mathlib.Omega.{arith}
 use Rattle.commands.specs.declared.verbs.Row.the-variants as row
-use Rattle.console.specs.Lending.{lentIn, storedIn}
-use Rattle.console.proofs.LendLaws.{values-after, lend-ready}
+use Rattle.lending.specs.Lending.{lentIn, storedIn}
+use Rattle.lending.proofs.LendLaws.{values-after, lend-ready}
 use borrow.Author.Needs.{needs}
-use Rattle.console.proofs.lending.lend.Statement.{statement}
-use Rattle.console.proofs.lending.lend.Tie as tie
+use Rattle.lending.proofs.lend.Statement.{statement}
+use Rattle.lending.proofs.lend.Tie as tie
 
 after-word-requires : tie.Need-after-word-requires
 after-word-requires c κs = search needs

@@ -6,8 +6,7 @@ use lib.IntN.{ℤ, pos}
 use lib.ListN.{length, replicate}
 use Rattle.commands.specs.Names.{placesOf}
 use Rattle.commands.specs.declared.verbs.Row.the-variants as row
-use Rattle.console.specs.declared.rows.Lent.{Lent}
-use Rattle.console.specs.declared.rows.State.{State}
+use Rattle.lending.specs.declared.rows.Lent.{Lent}
 
 -- what stands in the rows
 pub record Rows : Type 0 where
@@ -25,6 +24,10 @@ rows ts hs ws xs ys bs rs = record { tails = ts; heads = hs; weights = ws; x = x
 -- how many places of each row are lent
 abbrev pub lents : ℕ → ℕ → ℕ → ℕ → ℕ → ℕ → ℕ → Lent
 lents t h w a b c r = record { tails = t; heads = h; weights = w; x = a; y = b; boxes = c; route = r }
+
+-- all places are lent
+abbrev pub allLent : Lent
+allLent = lents (placesOf row.Tails) (placesOf row.Heads) (placesOf row.Weights) (placesOf row.X) (placesOf row.Y) (placesOf row.Boxes) (placesOf row.Route)
 
 -- the rows have all the places that the console has
 pub record Full (all : Rows) : Type 0 where
@@ -46,11 +49,6 @@ pub record Within (lent : Lent) : Type 0 where
   pub boxes : lent .boxes ≤ placesOf row.Boxes
   pub route : lent .route ≤ placesOf row.Route
 
--- what is lent lies within the rows, and the last reply within the page
-pub record Well (state : State) : Type 0 where
-  pub lent : Within (state .lent)
-  pub end : state .end ≤ 368640
-
 -- a row with a number in all its places
 abbrev pub allOf : {A : Type 0} → A → List A → List A
 allOf number row = replicate (length row) number
@@ -60,11 +58,3 @@ abbrev pub cleared : Rows → Rows
 cleared all =
     rows (allOf 0 (all .tails)) (allOf 0 (all .heads)) (allOf 0 (all .weights))
     (allOf (pos 0) (all .x)) (allOf (pos 0) (all .y)) (allOf (pos 0) (all .boxes)) (allOf 0 (all .route))
-
--- all places are lent, n and m are 0, and no reply stands on the page
-abbrev pub fresh : State
-fresh = record {
-  lent = lents (placesOf row.Tails) (placesOf row.Heads) (placesOf row.Weights) (placesOf row.X) (placesOf row.Y) (placesOf row.Boxes) (placesOf row.Route);
-  sizes = record { n = 0; m = 0 };
-  end = 0;
-}

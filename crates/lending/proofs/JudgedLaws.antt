@@ -17,7 +17,7 @@ use Rattle.commands.specs.declared.numbers.Count.{Count}
 use Rattle.commands.specs.declared.numbers.Count.the-variants as count
 use Rattle.commands.specs.declared.numbers.Signed.{Signed}
 use Rattle.commands.specs.declared.numbers.Signed.the-variants as signed
-use Rattle.console.specs.Lending.{countIn, wholeIn}
+use Rattle.lending.specs.Lending.{countIn, wholeIn}
 
 bad-good : {A : Type 0} (f : Fault) → Bad f ≡ Good → A
 bad-good f e = let z : _≡_ {A = ℕ} 0 1 = cc in absurd (omega arith)

@@ -1,11 +1,11 @@
--- `console::rows::clear_counts` meets its contract. Assumes nothing.
+-- `lending::rows::clear_counts` meets its contract. Assumes nothing.
 use Prim.Native.Nat.{_-_}
 use native.Mathlib.Omega.{arith}
 use lib.ListN.{length, length-set}
 use borrow.Author.Needs.{needs}
-use Rattle.console.proofs.StoreLaws.{Clearing, clear-more, clear-end}
-use Rattle.console.proofs.rows.clear_counts.Statement.{statement}
-use Rattle.console.proofs.rows.clear_counts.Tie as tie
+use Rattle.lending.proofs.StoreLaws.{Clearing, clear-more, clear-end}
+use Rattle.lending.proofs.rows.clear_counts.Statement.{statement}
+use Rattle.lending.proofs.rows.clear_counts.Tie as tie
 
 abbrev Inv-loop : tie.InvT-loop
 Inv-loop row₀ i₀ row i = Clearing 0 row₀ row i
