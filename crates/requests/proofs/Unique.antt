@@ -5,6 +5,7 @@ use mathlib.Core.List.{List}
 use native.Mathlib.Omega.{arith}
 use lib.IntN.{ℤ}
 use Rattle.rules.specs.Paper.{judged-injective}
+use Rattle.files.specs.File.{Held}
 use Rattle.commands.specs.declared.Call.{Call}
 use Rattle.commands.specs.declared.Request.{Request}
 use Rattle.dimacs.proofs.Unique.{read-gr-unique, read-co-unique}
@@ -14,7 +15,7 @@ use Rattle.search.specs.SaysLaws.{says-unique}
 use Rattle.boxwork.specs.SaysLaws.{build-unique, check-unique, update-unique}
 use Rattle.replies.specs.Replies.{judgedLine}
 use Rattle.requests.specs.Desk.{Desk, withBoxes, withRoute}
-use Rattle.requests.specs.Requests.{Held, graphLine, graphSizes, placesLine, Makes, ReadsGraph, ReadsPlaces, Meets}
+use Rattle.requests.specs.Requests.{graphLine, graphSizes, placesLine, Makes, ReadsGraph, ReadsPlaces, Meets}
 use Rattle.requests.specs.declared.Sizes.{Sizes}
 
 -- ---- the calls
