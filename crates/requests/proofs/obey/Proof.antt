@@ -1,7 +1,8 @@
 -- `requests::obey` meets its contract. Assumes nothing.
 use native.Mathlib.Omega.{arith}
 use Rattle.replies.specs.Replies.{okLine, helpLine}
-use Rattle.requests.specs.Requests.{Meets, unread}
+use Rattle.files.specs.File.{unread}
+use Rattle.requests.specs.Requests.{Meets}
 use Rattle.requests.proofs.RequestLaws.{meets-case}
 use borrow.Author.Needs.{needs}
 use Rattle.requests.proofs.obey.Statement.{statement}

@@ -1,7 +1,8 @@
 -- `requests::calls::make` meets its contract. Assumes nothing.
 use native.Mathlib.Omega.{arith}
 use Rattle.replies.specs.Replies.{judgedLine, answerLine}
-use Rattle.requests.specs.Requests.{Makes, unread}
+use Rattle.files.specs.File.{unread}
+use Rattle.requests.specs.Requests.{Makes}
 use Rattle.requests.proofs.RequestLaws.{makes-case}
 use borrow.Author.Needs.{needs}
 use Rattle.requests.proofs.calls.make.Statement.{statement}

@@ -2,7 +2,8 @@
 use native.Mathlib.Omega.{arith}
 use mathlib.Core.Path.{refl}
 use Rattle.files.specs.Refusals.{noFileLine}
-use Rattle.requests.specs.Requests.{graphLine, text, unread, ReadsGraph}
+use Rattle.files.specs.File.{text, unread}
+use Rattle.requests.specs.Requests.{graphLine, ReadsGraph}
 use Rattle.requests.proofs.RequestLaws.{graph-sizes}
 use borrow.Author.Needs.{needs}
 use Rattle.requests.proofs.texts.read_graph.Statement.{statement}

@@ -2,7 +2,8 @@
 use native.Mathlib.Omega.{arith}
 use mathlib.Core.Path.{refl}
 use Rattle.files.specs.Refusals.{noFileLine}
-use Rattle.requests.specs.Requests.{placesLine, text, unread, ReadsPlaces}
+use Rattle.files.specs.File.{text, unread}
+use Rattle.requests.specs.Requests.{placesLine, ReadsPlaces}
 use borrow.Author.Needs.{needs}
 use Rattle.requests.proofs.texts.read_places.Statement.{statement}
 use Rattle.requests.proofs.texts.read_places.Tie as tie
