@@ -86,3 +86,28 @@ pub apart-end : (was : Bool) (s : List ℕ) (i : ℕ) → length s ≤ i → apa
 unfolding pieces noneEmpty
 apart-end true s i h = rw (drop-of-length-le s h)
 apart-end false s i h = rw (drop-of-length-le s h)
+
+-- ---- the words of a line with no empty field are its fields
+
+some-words : (was : Bool) (b : ℕ) (t : List ℕ) → apart was (b ∷ t) ≡ true → wordsOf (b ∷ t) ≡ fieldsOf (b ∷ t)
+unfolding pieces opening noneEmpty
+some-words was b [] h = by-byte was (eqb b 32) h
+  where
+    by-byte : (was is : Bool) → noneEmpty (cond was (cond is ([] ∷ [] ∷ []) ((b ∷ []) ∷ [])) (drop 1 (cond is ([] ∷ [] ∷ []) ((b ∷ []) ∷ [])))) ≡ true
+        → cond is ([] ∷ []) ((b ∷ []) ∷ []) ≡ cond is ([] ∷ [] ∷ []) ((b ∷ []) ∷ [])
+    by-byte true true h = absurd (false≢true h)
+    by-byte false true h = absurd (false≢true h)
+    by-byte was false h = refl
+some-words was b (c ∷ u) h = by-byte was (eqb b 32) (λ is. some-words is c u) h
+  where
+    by-byte : (was is : Bool) → ((is : Bool) → apart is (c ∷ u) ≡ true → wordsOf (c ∷ u) ≡ fieldsOf (c ∷ u))
+        → noneEmpty (cond was (cond is ([] ∷ fieldsOf (c ∷ u)) (opening b (fieldsOf (c ∷ u)))) (drop 1 (cond is ([] ∷ fieldsOf (c ∷ u)) (opening b (fieldsOf (c ∷ u)))))) ≡ true
+        → cond is ([] ∷ wordsOf (c ∷ u)) (opening b (wordsOf (c ∷ u))) ≡ cond is ([] ∷ fieldsOf (c ∷ u)) (opening b (fieldsOf (c ∷ u)))
+    by-byte true true ih h = absurd (false≢true h)
+    by-byte true false ih h = rw (ih false (sym (by-space true false b (fieldsOf (c ∷ u)) refl) ∙ h))
+    by-byte false is ih h = rw (ih is (sym (by-space false is b (fieldsOf (c ∷ u)) refl) ∙ h))
+
+pub words-are-fields : (s : List ℕ) → noneEmpty (fieldsOf s) ≡ true → wordsOf s ≡ fieldsOf s
+unfolding pieces noneEmpty
+words-are-fields [] h = absurd (false≢true h)
+words-are-fields (b ∷ t) h = some-words true b t h

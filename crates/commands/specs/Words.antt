@@ -7,7 +7,7 @@ use lib.Dec.{eqb}
 use lib.ListN.{drop, getD}
 use Rattle.scan.specs.Pieces.{pieces, firstAt}
 
--- Words are divided by single spaces; an empty text has none.
+-- Words are divided by single spaces; an empty text has none. Where no field is empty, they are the fields.
 abbrev pub wordsOf : List ℕ → List (List ℕ)
 wordsOf s = pieces (code " ") [] s
 
