@@ -17,7 +17,7 @@ use Rattle.rules.specs.declared.Refusal.{Refusal}
 use Rattle.rules.specs.declared.Refusal.the-variants.{TextTooLong, RowTooShort, BeyondLimits}
 use Rattle.rules.specs.declared.Judged.the-variants.{Fine}
 use Rattle.scan.specs.Fields.{none}
-use Rattle.scan.specs.declared.fields.Numbers.{Numbers}
+use Rattle.scan.specs.declared.holding.Numbers.{Numbers}
 use Rattle.dimacs.specs.Gr.{grRules}
 use Rattle.dimacs.specs.Co.{coRules}
 use Rattle.dimacs.specs.Texts.{Outcome, read, refused, readText}

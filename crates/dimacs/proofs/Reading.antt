@@ -13,7 +13,7 @@ use Rattle.rules.specs.declared.Judged.the-variants.{Fine, Refused}
 use Rattle.scan.specs.Pieces.{pieces, firstAt, linesOf}
 use Rattle.scan.specs.Fields.{none}
 use Rattle.scan.specs.Held.{heldLine}
-use Rattle.scan.specs.declared.fields.Numbers.{Numbers}
+use Rattle.scan.specs.declared.holding.Numbers.{Numbers}
 use Rattle.scan.specs.declared.line.Line.{Line}
 use Rattle.scan.specs.declared.line.Line.the-variants.{Problem, Data}
 use Rattle.scan.proofs.PieceLaws.{pieces-step}

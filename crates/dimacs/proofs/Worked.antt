@@ -14,7 +14,7 @@ use Rattle.scan.specs.Pieces.{opening, pieces, firstAt, sameBytes}
 use Rattle.scan.specs.Numbers.{valueFrom, naturalOf, plain, negated, integerOf}
 use Rattle.scan.specs.Fields.{takenNatural, takenInteger, taken, onField, matched}
 use Rattle.scan.specs.Line.{lineOf}
-use Rattle.scan.specs.declared.fields.Numbers.{Numbers}
+use Rattle.scan.specs.declared.holding.Numbers.{Numbers}
 use Rattle.dimacs.specs.Rules.{naturals, within}
 use Rattle.dimacs.specs.Gr.{grLine, grRules}
 use Rattle.dimacs.specs.Co.{coLine, coRules}

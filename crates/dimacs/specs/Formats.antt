@@ -2,7 +2,7 @@
 use Prim.Native.Nat.{ℕ}
 use mathlib.Core.List.{List}
 use Rattle.scan.specs.declared.line.Line.{Line}
-use Rattle.scan.specs.declared.fields.Numbers.{Numbers}
+use Rattle.scan.specs.declared.holding.Numbers.{Numbers}
 use Rattle.dimacs.specs.Gr.{grLine, grRules}
 use Rattle.dimacs.specs.Co.{coLine, coRules}
 use Rattle.dimacs.specs.declared.format.Format.{Format}

@@ -3,7 +3,7 @@ use Prim.Native.Nat.{ℕ}
 use mathlib.Core.List.{List, _++_, map}
 use lib.IntN.{ℤ}
 use lib.ListN.{drop}
-use Rattle.scan.specs.declared.fields.Numbers.{Numbers}
+use Rattle.scan.specs.declared.holding.Numbers.{Numbers}
 use Rattle.dimacs.specs.Texts.{Outcome, read, refused}
 use Rattle.dimacs.specs.declared.rows.Column.{Column}
 use Rattle.dimacs.specs.declared.rows.Column.the-variants.{First, Second, Third}

@@ -1,5 +1,5 @@
 // What each format says of its lines: their forms, and the limits of the numbers on them.
-use scan::fields::Numbers;
+use scan::holding::Numbers;
 use scan::line::Line;
 use scan::line::read_line;
 ghost use mathlib.Core.Path.{_≡_};

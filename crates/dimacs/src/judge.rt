@@ -3,7 +3,7 @@ use crate::format::Rules;
 use crate::format::are_within;
 use rules::Judged;
 use rules::Refusal;
-use scan::fields::Numbers;
+use scan::holding::Numbers;
 use scan::line::Line;
 ghost use mathlib.Core.Path.{_≡_};
 ghost use mathlib.Core.Bool.{true};

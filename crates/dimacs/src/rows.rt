@@ -1,5 +1,5 @@
 // Numbers of data lines, put into rows that are lent.
-use scan::fields::Numbers;
+use scan::holding::Numbers;
 ghost use mathlib.Core.Path.{_≡_};
 ghost use mathlib.Core.List.{_++_, map};
 ghost use Prim.Native.Nat.{_≤_};

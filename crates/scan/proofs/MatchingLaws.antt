@@ -13,7 +13,7 @@ use borrow.Author.Tests.{lt-ltb, le-ltb}
 use Rattle.scan.specs.Pieces.{firstAt, fieldsOf}
 use Rattle.scan.specs.Fields.{none, taken, unread, onField, matched}
 use Rattle.scan.specs.Held.{held, heldZ, heldNumbers, heldField, heldFields}
-use Rattle.scan.specs.declared.fields.Numbers.{Numbers}
+use Rattle.scan.specs.declared.holding.Numbers.{Numbers}
 use Rattle.scan.specs.declared.fields.Kind.the-variants.{Misspelt, Missing, Extra}
 use Rattle.scan.specs.declared.fields.Field.{Field}
 use Rattle.scan.specs.declared.fields.Field.the-variants.{Taken, NotTaken}

@@ -12,7 +12,7 @@ use Rattle.scan.specs.declared.numbers.Natural.{Natural}
 use Rattle.scan.specs.declared.numbers.Natural.the-variants.{Number, NoNumber}
 use Rattle.scan.specs.declared.numbers.Integer.{Integer}
 use Rattle.scan.specs.declared.numbers.Integer.the-variants.{Whole, NoWhole}
-use Rattle.scan.specs.declared.fields.Numbers.{Numbers}
+use Rattle.scan.specs.declared.holding.Numbers.{Numbers}
 use Rattle.scan.specs.declared.fields.Kind.{Kind}
 use Rattle.scan.specs.declared.fields.Kind.the-variants.{Misspelt, Missing, Extra}
 use Rattle.scan.specs.declared.fields.Field.{Field}

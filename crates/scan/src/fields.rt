@@ -1,4 +1,10 @@
 // The fields of a line, read from left to right where its form has fields; a form is written as in the paper: `p sp N M`, `v ID X Y`.
+use crate::holding::Numbers;
+use crate::holding::add_integer;
+use crate::holding::add_natural;
+use crate::holding::hold_integer;
+use crate::holding::hold_natural;
+use crate::holding::no_numbers;
 use crate::numbers::Integer;
 use crate::numbers::Natural;
 use crate::numbers::read_integer;
@@ -9,20 +15,9 @@ use crate::pieces::front;
 use crate::pieces::rest;
 use crate::pieces::same_bytes;
 ghost use mathlib.Core.Path.{_≡_};
-ghost use Prim.Native.Nat.{min};
 ghost use Rattle.scan.specs.Pieces.{fieldsOf};
-ghost use Rattle.scan.specs.Fields.{none, oneNatural, oneInteger, taken, matched};
-ghost use Rattle.scan.specs.Held.{heldZ, heldNumbers, heldField, heldFields};
-
-// The numbers of a line, the last three without sign and the last two that may have a minus; 0 where there are fewer.
-// What is beyond 10,000,000 is held as 10,000,000: every limit of a format is far below.
-pub struct Numbers {
-    pub first: u32,
-    pub second: u32,
-    pub third: u32,
-    pub x: i32,
-    pub y: i32,
-}
+ghost use Rattle.scan.specs.Fields.{none, taken, matched};
+ghost use Rattle.scan.specs.Held.{heldNumbers, heldField, heldFields};
 
 // What is wrong with a line.
 pub enum Kind {
@@ -49,68 +44,6 @@ pub enum Field {
 pub enum Fields {
     Read(Numbers),
     Unread(Fault),
-}
-
-// No number yet.
-pub fn no_numbers() -> Numbers
-    ensures { λ r. ⌜ r ≡ none ⌝ }
-{
-    Numbers {
-        first: 0,
-        second: 0,
-        third: 0,
-        x: 0,
-        y: 0,
-    }
-}
-
-// A number without sign, as a line holds it.
-fn hold_natural(v: u64) -> u32
-    ensures { λ r. ⌜ r ≡ min v 10000000 ⌝ }
-{
-    if 10000000 < v {
-        return 10000000;
-    }
-    v as u32
-}
-
-// A number that may have a minus, as a line holds it.
-fn hold_integer(z: i64) -> i32
-    ensures { λ r. ⌜ r ≡ heldZ z ⌝ }
-{
-    if z < -10000000 {
-        return -10000000;
-    }
-    if 10000000 < z {
-        return 10000000;
-    }
-    z as i32
-}
-
-// One number more, without sign.
-fn add_natural(ns: Numbers, v: u32) -> Numbers
-    ensures { λ r. ⌜ r ≡ oneNatural ns v ⌝ }
-{
-    Numbers {
-        first: ns.second,
-        second: ns.third,
-        third: v,
-        x: ns.x,
-        y: ns.y,
-    }
-}
-
-// One number more, that may have a minus.
-fn add_integer(ns: Numbers, z: i32) -> Numbers
-    ensures { λ r. ⌜ r ≡ oneInteger ns z ⌝ }
-{
-    Numbers {
-        first: ns.first,
-        second: ns.second,
-        third: ns.third,
-        x: ns.y,
-        y: z,
-    }
 }
 
 // The field s where the form has `form`, after the numbers ns.

@@ -2,8 +2,8 @@
 use crate::fields::Fault;
 use crate::fields::Fields;
 use crate::fields::Kind;
-use crate::fields::Numbers;
 use crate::fields::read_fields;
+use crate::holding::Numbers;
 use crate::pieces::first_at;
 use crate::pieces::front;
 use crate::pieces::same_bytes;

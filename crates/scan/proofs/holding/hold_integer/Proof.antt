@@ -5,8 +5,8 @@ use mir.Val.{toZ, ofZ}
 use mir.Facts.{toZ-ofZ}
 use Rattle.scan.specs.Held.{heldZ}
 use Rattle.scan.proofs.NumberLaws.{narrow-fits, held-low, held-high, held-in}
-use Rattle.scan.proofs.fields.hold_integer.Statement.{statement}
-use Rattle.scan.proofs.fields.hold_integer.Tie as tie
+use Rattle.scan.proofs.holding.hold_integer.Statement.{statement}
+use Rattle.scan.proofs.holding.hold_integer.Tie as tie
 
 returns : tie.Need-returns
 returns c = held-low (toZ w64 (ofZ w64 (c .before .args .z))) (c .if1 .taken) ∙ ap heldZ (toZ-ofZ (c .before .fits .z))
