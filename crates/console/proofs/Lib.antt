@@ -1,2 +1,3 @@
+mod AnswerLaws
 mod HeardLaws
 mod InputLaws

@@ -1,9 +1,12 @@
 // A line is answered: its reply is put on the page.
 ghost use mathlib.Core.Path.{_≡_};
 ghost use lib.ListN.{take};
+ghost use Rattle.commands.specs.declared.Command.the-variants.{Other};
 ghost use Rattle.lending.specs.Rows.{rows, Full, Within};
+ghost use Rattle.requests.specs.Requests.{Replied};
 ghost use Rattle.console.specs.State.{Well};
 ghost use Rattle.console.specs.Input.{askedBy};
+ghost use Rattle.console.specs.Answers.{console, Answers, Answered};
 use crate::state::State;
 use crate::state::start;
 use commands::Command;
@@ -56,6 +59,7 @@ fn lend_out(
     route: &mut [u32],
 ) -> State
     requires { ⌜ Within lent × Full (rows (now tails) (now heads) (now weights) (now x) (now y) (now boxes) (now route)) ⌝ }
+    ensures { λ r. ⌜ Replied (λ held reply. Answers held (now (words .entry)) (console (rows (now (tails .entry)) (now (heads .entry)) (now (weights .entry)) (now (x .entry)) (now (y .entry)) (now (boxes .entry)) (now (route .entry))) lent sizes) (Other request) reply (console (rows (now (tails .exit)) (now (heads .exit)) (now (weights .exit)) (now (x .exit)) (now (y .exit)) (now (boxes .exit)) (now (route .exit))) (r .lent) (r .sizes))) (now (page .entry)) (r .end) (now (page .exit)) ⌝ }
     ensures { λ r. ⌜ Well r ⌝ }
 {
     let a = lent.tails;
@@ -102,6 +106,7 @@ pub fn answer(
     route: &mut [u32],
 ) -> State
     requires { ⌜ Well state × Full (rows (now tails) (now heads) (now weights) (now x) (now y) (now boxes) (now route)) ⌝ }
+    ensures { λ r. ⌜ Answered (now (line .entry)) length ended (console (rows (now (tails .entry)) (now (heads .entry)) (now (weights .entry)) (now (x .entry)) (now (y .entry)) (now (boxes .entry)) (now (route .entry))) (state .lent) (state .sizes)) (now (page .entry)) (r .end) (console (rows (now (tails .exit)) (now (heads .exit)) (now (weights .exit)) (now (x .exit)) (now (y .exit)) (now (boxes .exit)) (now (route .exit))) (r .lent) (r .sizes)) (now (page .exit)) ⌝ }
     ensures { λ r. ⌜ Well r ⌝ }
 {
     let lent = state.lent;

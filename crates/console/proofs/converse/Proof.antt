@@ -50,7 +50,7 @@ loop-again c =
     let heads = c .before .before .before .before .before .before .before .before .before .before .before .heads .given in
     let tails = c .before .before .before .before .before .before .before .before .before .before .before .before .before .tails .given in
     let line = c .before .before .before .before .before .before .before .before .before .before .before .before .before .before .before .before .before .before .before .before .before .before .before .before .before .before .line .given in
-    (c .before .before .before .before .before .before .before .before .before .before .before .before .before .before .answer .ensures, record { tails = omega arith; heads = omega arith; weights = omega arith; x = omega arith; y = omega arith; boxes = omega arith; route = omega arith }, c .before .before .before .before .before .before .before .before .before .before .before .before .before .before .before .before .before .before .before .before .before .before .before .before .before .before .before .read-line .ensures .1, omega arith)
+    (c .before .before .before .before .before .before .before .before .before .before .before .before .before .before .answer .ensures .1, record { tails = omega arith; heads = omega arith; weights = omega arith; x = omega arith; y = omega arith; boxes = omega arith; route = omega arith }, c .before .before .before .before .before .before .before .before .before .before .before .before .before .before .before .before .before .before .before .before .before .before .before .before .before .before .before .read-line .ensures .1, omega arith)
 
 same-length : tie.Need-same-length Inv-loop μ-loop
 same-length c = search needs

@@ -2,13 +2,17 @@
 use native.Mathlib.Omega.{arith}
 use Rattle.lending.proofs.LendLaws.{lend-within}
 use Rattle.lending.proofs.WithinLaws.{within-all}
+use Rattle.replies.specs.Replies.{okLine}
+use Rattle.requests.specs.Requests.{unread}
+use Rattle.console.specs.Answers.{Answers, Answered}
+use Rattle.console.proofs.AnswerLaws.{lends-as, fresh-as, answered-as}
 use Rattle.console.proofs.HeardLaws.{lend-heard}
 use borrow.Author.Needs.{needs}
 use Rattle.console.proofs.answer.answer.Statement.{statement}
 use Rattle.console.proofs.answer.answer.Tie as tie
 
 returns : tie.Need-returns
-returns c = search needs
+returns c = (Answered.over (c .if1 .taken), search needs)
 
 asked-requires : tie.Need-asked-requires
 asked-requires c κs = search needs
@@ -23,7 +27,8 @@ put-fault-requires : tie.Need-put-fault-requires
 put-fault-requires c κs = search needs
 
 returns-2 : tie.Need-returns-2
-returns-2 c = search needs
+returns-2 c =
+    (answered-as (c .before .before .before .before .before .before .before .if1 .left) (c .before .before .before .before .before .before .asked .ensures) (c .before .before .before .before .before .heard .ensures) (c .before .before .before .command .given .1) (record { held = unread; reply = _; says = Answers.faulty; puts = c .put-fault .ensures .0 }), search needs)
 
 enum-known-command-2 : tie.Need-enum-known-command-2
 enum-known-command-2 c = search needs
@@ -61,7 +66,7 @@ returns-3 : tie.Need-returns-3
 returns-3 c =
     let args = c .before .before .before .before .before .before .before .before .before .before .before .before .before .before .before .before .before .before .before .before .before .before .before .before .before .before .before .before .before .before .before .before .before .before .args in
     let asks = lend-heard (args .line .now) _ (args .length) _ _ (c .before .before .before .before .before .before .before .before .before .before .before .before .before .before .before .before .before .before .before .before .before .before .before .before .before .asked .ensures) (c .before .before .before .before .before .before .before .before .before .before .before .before .before .before .before .before .before .before .before .before .before .before .before .before .heard .ensures) (c .before .before .before .before .before .before .before .before .before .before .before .before .before .before .before .before .before .before .before .before .before .before .command2 .given .1) in
-    record { lent = rw (c .before .before .before .before .before .before .before .before .before .before .before .before .before .lend .ensures .0) (lend-within _ _ _ asks (c .before .before .before .before .before .before .before .before .before .before .before .before .before .before .before .before .before .before .before .before .before .before .before .before .before .before .before .before .before .before .before .before .before .before .pre .0 .lent)); end = omega arith }
+    (answered-as (c .before .before .before .before .before .before .before .before .before .before .before .before .before .before .before .before .before .before .before .before .before .before .before .before .before .before .if1 .left) (c .before .before .before .before .before .before .before .before .before .before .before .before .before .before .before .before .before .before .before .before .before .before .before .before .before .asked .ensures) (c .before .before .before .before .before .before .before .before .before .before .before .before .before .before .before .before .before .before .before .before .before .before .before .before .heard .ensures) (c .before .before .before .before .before .before .before .before .before .before .before .before .before .before .before .before .before .before .before .before .before .before .command2 .given .1) (record { held = unread; reply = okLine; says = lends-as (c .before .before .before .before .before .before .before .before .before .before .before .before .before .lend .ensures); puts = c .put-ok .ensures .0 }), record { lent = rw (c .before .before .before .before .before .before .before .before .before .before .before .before .before .lend .ensures .0) (lend-within _ _ _ asks (c .before .before .before .before .before .before .before .before .before .before .before .before .before .before .before .before .before .before .before .before .before .before .before .before .before .before .before .before .before .before .before .before .before .before .pre .0 .lent)); end = omega arith })
 
 enum-told : tie.Need-enum-told
 enum-told c = search needs
@@ -97,7 +102,8 @@ same-length-14 : tie.Need-same-length-14
 same-length-14 c = search needs
 
 returns-4 : tie.Need-returns-4
-returns-4 c = record { lent = rw (c .before .before .before .before .start .ensures) within-all; end = omega arith }
+returns-4 c =
+    (answered-as (c .before .before .before .before .before .before .before .before .before .before .before .before .before .before .before .before .before .before .before .before .before .before .before .before .before .before .before .before .if1 .left) (c .before .before .before .before .before .before .before .before .before .before .before .before .before .before .before .before .before .before .before .before .before .before .before .before .before .before .before .asked .ensures) (c .before .before .before .before .before .before .before .before .before .before .before .before .before .before .before .before .before .before .before .before .before .before .before .before .before .before .heard .ensures) (c .before .before .before .before .before .before .before .before .before .before .before .before .before .before .before .before .before .before .before .before .before .before .before .before .enum-told .given .1) (record { held = unread; reply = okLine; says = fresh-as (c .before .before .before .before .before .before .before .before .before .before .before .before .before .before .before .before .clear-rows .ensures) (c .before .before .before .before .start .ensures); puts = c .put-ok2 .ensures .0 }), record { lent = rw (c .before .before .before .before .start .ensures) within-all; end = omega arith })
 
 enum-known-command-3 : tie.Need-enum-known-command-3
 enum-known-command-3 c = search needs
@@ -127,7 +133,8 @@ same-length-21 : tie.Need-same-length-21
 same-length-21 c = search needs
 
 returns-5 : tie.Need-returns-5
-returns-5 c = search needs
+returns-5 c =
+    (answered-as (c .before .before .before .before .before .before .before .before .before .before .before .before .before .before .before .before .before .before .before .before .before .before .before .before .before .if1 .left) (c .before .before .before .before .before .before .before .before .before .before .before .before .before .before .before .before .before .before .before .before .before .before .before .before .asked .ensures) (c .before .before .before .before .before .before .before .before .before .before .before .before .before .before .before .before .before .before .before .before .before .before .before .heard .ensures) (c .before .before .before .before .before .before .before .before .before .before .before .before .before .before .before .before .before .before .before .before .before .command3 .given .1) (c .before .before .before .before .before .before .before .before .before .before .before .lend-out .ensures .0), search needs)
 
 pub answer-spec : {M : Type 1} → statement M
 answer-spec =

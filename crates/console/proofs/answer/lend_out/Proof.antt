@@ -2,6 +2,7 @@
 use native.Mathlib.Omega.{arith}
 use lib.ListN.{length-take, length-drop}
 use borrow.Author.Needs.{needs}
+use Rattle.console.proofs.AnswerLaws.{meets-as}
 use Rattle.console.proofs.answer.lend_out.Statement.{statement}
 use Rattle.console.proofs.answer.lend_out.Tie as tie
 
@@ -96,7 +97,9 @@ same-length-7 : tie.Need-same-length-7
 same-length-7 c = search needs
 
 returns : tie.Need-returns
-returns c = search needs
+returns c =
+    let met = c .before .before .before .before .before .before .before .before .before .before .before .before .obey .ensures .0 in
+    (record { held = met .held; reply = met .reply; says = meets-as (met .says); puts = met .puts }, search needs)
 
 pub lend-out-spec : {M : Type 1} → statement M
 lend-out-spec =
