@@ -6,15 +6,9 @@ use borrow.Author.Needs.{needs}
 use Rattle.boxes.proofs.put_unread.Statement.{statement}
 use Rattle.boxes.proofs.put_unread.Tie as tie
 
-slice-aggregate-put : tie.Need-slice-aggregate-put
-slice-aggregate-put c = search needs
-
-put-requires : tie.Need-put-requires
-put-requires c κs = search needs
-
 returns : tie.Need-returns
 unfolding unreadLine bytes
 returns c = (c .put .ensures, omega arith)
 
 pub put-unread-spec : {M : Type 1} → statement M
-put-unread-spec = tie.close (tie.spec slice-aggregate-put put-requires returns)
+put-unread-spec = tie.close (tie.spec (λ c. search needs) (λ c κs. search needs) returns)
