@@ -1,5 +1,8 @@
 // Reads `net.gr` and `net.co`, builds the boxes and prints one line per arc, or why it was refused.
 ghost use Prim.Native.Nat.{_≤_};
+ghost use Rattle.walks.specs.Rows.{rows};
+ghost use Rattle.files.specs.Page.{Puts, Replied};
+ghost use Rattle.boxes.specs.Prints.{unreadLine, builtText, PrintsPlaced, Prints, Files};
 use dimacs::CoReply;
 use dimacs::GrReply;
 use files::page::PAGE;
@@ -10,42 +13,40 @@ use files::reading::read_file;
 use files::refusals::put_place;
 use listing::put_listing;
 use rules::Judged;
-use rules::Refusal;
 
 // The line where a file cannot be read.
 fn put_unread(page: &mut [u8; PAGE]) -> usize
+    ensures { λ r. ⌜ Puts unreadLine 0 (now (page .entry)) r (now (page .exit)) ⌝ }
     ensures { λ r. ⌜ r ≤ 368640 ⌝ }
 {
     put(page, 0, b"refused 0 0\n")
 }
 
-// Builds the boxes of a network and lists them.
-fn list_boxes(
+// What build answered: the listing, or why it was refused.
+fn put_built(
     page: &mut [u8; PAGE],
-    n: u32,
+    answer: Judged,
     m: u32,
     tails: &[u32; 2048],
     heads: &[u32; 2048],
     weights: &[u32; 2048],
-    x: &[i32; 512],
-    y: &[i32; 512],
+    boxes: &[i32; 8192],
 ) -> usize
+    requires { ⌜ m ≤ 2048 ⌝ }
+    ensures { λ r. ⌜ Puts (builtText m (rows (now (tails .entry)) (now (heads .entry)) (now (weights .entry))) (now (boxes .entry)) answer) 0 (now (page .entry)) r (now (page .exit)) ⌝ }
     ensures { λ r. ⌜ r ≤ 368640 ⌝ }
 {
-    let mut boxes = [0i32; 8192];
-    let judged = boxwork::build(n, m, tails, heads, weights, x, y, &mut boxes);
-    let Judged::Refused(r) = judged else {
-        let arcs = m as usize;
-        // more have been refused
-        if 2048 < arcs {
-            return 0;
+    match answer {
+        Judged::Fine => {
+            return put_listing(page, m as usize, tails, heads, weights, boxes);
         }
-        return put_listing(page, arcs, tails, heads, weights, &boxes);
-    };
-    put_place(page, 0, r)
+        Judged::Refused(r) => {
+            return put_place(page, 0, r);
+        }
+    }
 }
 
-// Reads the places of the nodes, then goes on.
+// Reads the places of the nodes, then builds.
 fn list_with_places(
     page: &mut [u8; PAGE],
     n: u32,
@@ -54,6 +55,8 @@ fn list_with_places(
     heads: &[u32; 2048],
     weights: &[u32; 2048],
 ) -> usize
+    requires { ⌜ m ≤ 2048 ⌝ }
+    ensures { λ r. ⌜ Replied (PrintsPlaced n m (rows (now (tails .entry)) (now (heads .entry)) (now (weights .entry)))) (now (page .entry)) r (now (page .exit)) ⌝ }
     ensures { λ r. ⌜ r ≤ 368640 ⌝ }
 {
     let mut text = [0u8; 65537];
@@ -65,13 +68,16 @@ fn list_with_places(
     let mut y = [0i32; 512];
     let reply = dimacs::read_co(&text[0..k], n, &mut x, &mut y);
     let CoReply::Refused(r) = reply else {
-        return list_boxes(page, n, m, tails, heads, weights, &x, &y);
+        let mut boxes = [0i32; 8192];
+        let answer = boxwork::build(n, m, tails, heads, weights, &x, &y, &mut boxes);
+        return put_built(page, answer, m, tails, heads, weights, &boxes);
     };
     put_place(page, 0, r)
 }
 
 // Reads the graph, then goes on.
 fn list(page: &mut [u8; PAGE]) -> usize
+    ensures { λ r. ⌜ Replied (λ (held : Files) printed. Prints (held .gr) (held .co) printed) (now (page .entry)) r (now (page .exit)) ⌝ }
     ensures { λ r. ⌜ r ≤ 368640 ⌝ }
 {
     let mut text = [0u8; 65537];

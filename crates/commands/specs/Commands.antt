@@ -13,7 +13,6 @@ use Rattle.commands.specs.Numbers.{countOf, signedOf}
 use Rattle.commands.specs.declared.Fault.the-variants.{EmptyLine, ControlByte, EmptyWord, NoCommand, WordCount, NoRow, LongRow}
 use Rattle.commands.specs.declared.Call.the-variants as call
 use Rattle.commands.specs.declared.Shown.the-variants.{All, First}
-use Rattle.commands.specs.declared.Request.{Request}
 use Rattle.commands.specs.declared.Request.the-variants as request
 use Rattle.commands.specs.declared.Command.{Command}
 use Rattle.commands.specs.declared.Command.the-variants.{Faulty, Lend, Fresh, Other}

@@ -1,7 +1,13 @@
--- What reading a file answers. Assumes nothing: these are definitions.
+-- What a file holds, and what reading it answers. Assumes nothing: these are definitions.
 use Prim.Native.Nat.{ℕ, _≤_}
+use mathlib.Core.List.{List}
 use Rattle.files.specs.declared.reading.File.{File}
 use Rattle.files.specs.declared.reading.File.the-variants.{Bytes, NoFile}
+
+-- what a file holds: a text, or nothing where it cannot be read
+pub data Held : Type 0 where
+  text : List ℕ → Held
+  unread : Held
 
 -- the bytes that were read lie within a text of so many places
 abbrev pub Within : ℕ → File → Type 0

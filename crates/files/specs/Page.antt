@@ -13,3 +13,10 @@ written page at (b ∷ text) = written (set page at b) (at + 1) text
 pub record Puts (text : List ℕ) (at : ℕ) (before : List ℕ) (r : ℕ) (after : List ℕ) : Type 0 where
   pub end : r ≡ at + length text
   pub page : after ≡ written before at text
+
+-- a reply that is said stands on the page up to the place `end`, whatever was held (the contents of the files that were asked for)
+pub record Replied {A : Type 0} (Says : A → List ℕ → Type 0) (page : List ℕ) (end : ℕ) (page′ : List ℕ) : Type 0 where
+  pub held : A
+  pub reply : List ℕ
+  pub says : Says held reply
+  pub puts : Puts reply 0 page end page′

@@ -3,7 +3,7 @@ use mathlib.Core.Path.{_≡_, ap}
 use mathlib.Core.Bool.{Bool, true, false, not, cond}
 use Prim.Native.Nat.{_≤_}
 use native.Mathlib.Nat.{le-trans, le-antisymm, le-of-lt}
-use lib.Dec.{T, leb, leb→le, le→leb, nleb→lt}
+use lib.Dec.{T, leb→le, le→leb, nleb→lt}
 use lib.IntN.{ℤ, pos, negsuc}
 use lib.Signed.{leZ, _≤ℤ_, ≤ℤ-refl}
 use Rattle.geometry.specs.Hull.{smaller, larger}

@@ -5,7 +5,8 @@ use Prim.Native.Nat.{ℕ}
 use Rattle.commands.specs.declared.Call.{Call}
 use Rattle.commands.specs.declared.Request.{Request}
 use Rattle.requests.specs.Desk.{Desk}
-use Rattle.requests.specs.Requests.{Held, Makes, ReadsGraph, Meets}
+use Rattle.files.specs.File.{Held}
+use Rattle.requests.specs.Requests.{Makes, ReadsGraph, Meets}
 use Rattle.requests.specs.declared.Sizes.{Sizes}
 
 pub makes-case : {d : Desk} {c case : Call} {reply : List ℕ} {after : Desk} → c ≡ case → Makes d case reply after → Makes d c reply after

@@ -5,7 +5,7 @@ use mathlib.Core.List.{List}
 use lib.IntN.{ℤ}
 use Rattle.rules.specs.Paper.{judgedReply}
 use Rattle.rules.specs.declared.Judged.{Judged}
-use Rattle.files.specs.Page.{Puts}
+use Rattle.files.specs.File.{Held, text, unread}
 use Rattle.files.specs.Refusals.{refusalLine, noFileLine}
 use Rattle.commands.specs.declared.Call.{Call}
 use Rattle.commands.specs.declared.Call.the-variants as call
@@ -62,11 +62,6 @@ unfoldable pub placesLine : CoReply → List ℕ
 placesLine places.Read = okLine
 placesLine (places.Refused r) = refusalLine r
 
--- what a file holds: a text, or nothing where it cannot be read
-pub data Held : Type 0 where
-  text : List ℕ → Held
-  unread : Held
-
 -- the file is read into the arc rows, and gives n and m; where it is refused or not read, everything stays
 pub data ReadsGraph (held : Held) (sizes : Sizes) (tails heads weights : List ℕ) : List ℕ → Sizes → List ℕ → List ℕ → List ℕ → Type 0 where
   no-file : held ≡ unread → ReadsGraph held sizes tails heads weights noFileLine sizes tails heads weights
@@ -97,11 +92,3 @@ pub data Meets (held : Held) (d : Desk) : Request → List ℕ → Desk → Type
       → Meets held d request.ReadCo reply (withPlaces d x y)
   called : {c : Call} {reply : List ℕ} {after : Desk} → Makes d c reply after → Meets held d (request.Call c) reply after
   help : Meets held d request.Help helpLine d
-
--- ---- a reply that is said stands on the page up to the place `end`, whatever a file held
-
-pub record Replied (Says : Held → List ℕ → Type 0) (page : List ℕ) (end : ℕ) (page′ : List ℕ) : Type 0 where
-  pub held : Held
-  pub reply : List ℕ
-  pub says : Says held reply
-  pub puts : Puts reply 0 page end page′

@@ -1,8 +1,10 @@
 // The calls on a network that has been lent.
 ghost use Prim.Native.Nat.{_≤_};
 ghost use lib.ListN.{length};
+ghost use Rattle.files.specs.File.{Held};
+ghost use Rattle.files.specs.Page.{Replied};
 ghost use Rattle.requests.specs.Desk.{desk};
-ghost use Rattle.requests.specs.Requests.{Makes, Replied};
+ghost use Rattle.requests.specs.Requests.{Makes};
 use crate::Sizes;
 use commands::Call;
 use files::page::PAGE;
@@ -23,7 +25,7 @@ pub fn make(
     route: &mut [u32],
 ) -> usize
     requires { ⌜ length (now route) ≤ 16384 ⌝ }
-    ensures { λ r. ⌜ Replied (λ held reply. Makes (desk sizes (now (tails .entry)) (now (heads .entry)) (now (weights .entry)) (now (x .entry)) (now (y .entry)) (now (boxes .entry)) (now (route .entry))) call reply (desk sizes (now (tails .entry)) (now (heads .entry)) (now (weights .exit)) (now (x .entry)) (now (y .entry)) (now (boxes .exit)) (now (route .exit)))) (now (page .entry)) r (now (page .exit)) ⌝ }
+    ensures { λ r. ⌜ Replied (λ (held : Held) reply. Makes (desk sizes (now (tails .entry)) (now (heads .entry)) (now (weights .entry)) (now (x .entry)) (now (y .entry)) (now (boxes .entry)) (now (route .entry))) call reply (desk sizes (now (tails .entry)) (now (heads .entry)) (now (weights .exit)) (now (x .entry)) (now (y .entry)) (now (boxes .exit)) (now (route .exit)))) (now (page .entry)) r (now (page .exit)) ⌝ }
     ensures { λ r. ⌜ r ≤ 368640 ⌝ }
 {
     let n = sizes.n;

@@ -3,9 +3,10 @@ pub mod calls;
 pub mod texts;
 
 ghost use Prim.Native.Nat.{_≤_};
+ghost use Rattle.files.specs.Page.{Replied};
 ghost use Rattle.replies.specs.Rows.{Short};
 ghost use Rattle.requests.specs.Desk.{desk};
-ghost use Rattle.requests.specs.Requests.{Meets, Replied};
+ghost use Rattle.requests.specs.Requests.{Meets};
 use crate::calls::make;
 use crate::texts::read_graph;
 use crate::texts::read_places;

@@ -1,8 +1,8 @@
 // `gr` and `co`: files are read into the lent rows.
 ghost use Prim.Native.Nat.{_≤_};
 ghost use mathlib.Core.Path.{_≡_};
-ghost use Rattle.files.specs.Page.{Puts};
-ghost use Rattle.requests.specs.Requests.{graphLine, graphSizes, placesLine, ReadsGraph, ReadsPlaces, Replied};
+ghost use Rattle.files.specs.Page.{Puts, Replied};
+ghost use Rattle.requests.specs.Requests.{graphLine, graphSizes, placesLine, ReadsGraph, ReadsPlaces};
 use crate::Done;
 use crate::Sizes;
 use commands::words::after_word;

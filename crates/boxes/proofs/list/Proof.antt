@@ -1,4 +1,9 @@
 -- `boxes::list` meets its contract. Assumes nothing.
+use native.Mathlib.Omega.{arith}
+use Rattle.files.specs.File.{text, unread}
+use Rattle.files.specs.Refusals.{placeLine}
+use Rattle.dimacs.proofs.Accepted.{read-gr-limits}
+use Rattle.boxes.specs.Prints.{unreadLine, gr-unread, gr-refused, gr-read}
 use borrow.Author.Needs.{needs}
 use Rattle.boxes.proofs.list.Statement.{statement}
 use Rattle.boxes.proofs.list.Tie as tie
@@ -22,7 +27,7 @@ put-unread-requires : tie.Need-put-unread-requires
 put-unread-requires c κs = search needs
 
 returns : tie.Need-returns
-returns c = search needs
+returns c = (record { held = record { gr = unread; co = unread }; reply = unreadLine; says = gr-unread; puts = c .put-unread .ensures .0 }, omega arith)
 
 sub-read-gr : tie.Need-sub-read-gr
 sub-read-gr c = search needs
@@ -51,10 +56,15 @@ enum-known-reply : tie.Need-enum-known-reply
 enum-known-reply c = search needs
 
 list-with-places-requires : tie.Need-list-with-places-requires
-list-with-places-requires c κs = search needs
+list-with-places-requires c κs =
+    let read = rw (c .before .before .before .before .before .reply .given .1) at (c .before .before .before .before .before .before .before .before .before .before .read-gr .ensures) in
+    read-gr-limits _ _ _ _ _ _ _ _ _ read .arcs
 
 returns-2 : tie.Need-returns-2
-returns-2 c = search needs
+returns-2 c =
+    let read = rw (c .before .before .before .before .before .before .reply .given .1) at (c .before .before .before .before .before .before .before .before .before .before .before .read-gr .ensures) in
+    let rest = c .list-with-places .ensures .0 in
+    (record { held = record { gr = text _; co = rest .held }; reply = rest .reply; says = gr-read read (rest .says); puts = rest .puts }, omega arith)
 
 enum-known-reply-2 : tie.Need-enum-known-reply-2
 enum-known-reply-2 c = search needs
@@ -63,7 +73,9 @@ put-place-requires : tie.Need-put-place-requires
 put-place-requires c κs = search needs
 
 returns-3 : tie.Need-returns-3
-returns-3 c = search needs
+returns-3 c =
+    let read = rw (c .before .before .before .reply2 .given .1) at (c .before .before .before .before .before .before .before .before .read-gr .ensures) in
+    (record { held = record { gr = text _; co = unread }; reply = placeLine _; says = gr-refused read; puts = c .put-place .ensures .0 }, omega arith)
 
 pub list-spec : {M : Type 1} → statement M
 list-spec =

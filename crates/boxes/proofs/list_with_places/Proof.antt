@@ -1,4 +1,8 @@
 -- `boxes::list_with_places` meets its contract. Assumes nothing.
+use native.Mathlib.Omega.{arith}
+use Rattle.files.specs.File.{text, unread}
+use Rattle.files.specs.Refusals.{placeLine}
+use Rattle.boxes.specs.Prints.{unreadLine, builtText, co-unread, co-refused, built}
 use borrow.Author.Needs.{needs}
 use Rattle.boxes.proofs.list_with_places.Statement.{statement}
 use Rattle.boxes.proofs.list_with_places.Tie as tie
@@ -22,7 +26,7 @@ put-unread-requires : tie.Need-put-unread-requires
 put-unread-requires c κs = search needs
 
 returns : tie.Need-returns
-returns c = search needs
+returns c = (record { held = unread; reply = unreadLine; says = co-unread; puts = c .put-unread .ensures .0 }, omega arith)
 
 sub-read-co : tie.Need-sub-read-co
 sub-read-co c = search needs
@@ -50,17 +54,33 @@ enum-known-reply c = search needs
 enum-told-2 : tie.Need-enum-told-2
 enum-told-2 c = search needs
 
-list-boxes-requires : tie.Need-list-boxes-requires
-list-boxes-requires c κs = search needs
+slice-aggregate-build : tie.Need-slice-aggregate-build
+slice-aggregate-build c = search needs
+
+slice-aggregate-build-2 : tie.Need-slice-aggregate-build-2
+slice-aggregate-build-2 c = search needs
+
+slice-aggregate-build-3 : tie.Need-slice-aggregate-build-3
+slice-aggregate-build-3 c = search needs
+
+build-requires : tie.Need-build-requires
+build-requires c κs = search needs
+
+put-built-requires : tie.Need-put-built-requires
+put-built-requires c κs = search needs
 
 returns-2 : tie.Need-returns-2
-returns-2 c = search needs
+returns-2 c =
+    let read = rw (c .before .before .before .before .before .before .before .before .before .before .before .enum-told2 .given .1) at (c .before .before .before .before .before .before .before .before .before .before .before .before .before .before .before .read-co .ensures) in
+    (record { held = text _; reply = builtText _ _ _ _; says = built _ read (c .before .before .before .before .build .ensures); puts = c .put-built .ensures .0 }, omega arith)
 
 put-place-requires : tie.Need-put-place-requires
 put-place-requires c κs = search needs
 
 returns-3 : tie.Need-returns-3
-returns-3 c = search needs
+returns-3 c =
+    let read = rw (c .before .before .before .reply .given .1) at (c .before .before .before .before .before .before .before .read-co .ensures) in
+    (record { held = text _; reply = placeLine _; says = co-refused read; puts = c .put-place .ensures .0 }, omega arith)
 
 pub list-with-places-spec : {M : Type 1} → statement M
 list-with-places-spec =
@@ -81,7 +101,11 @@ list-with-places-spec =
     read-co-requires
     enum-known-reply
     enum-told-2
-    list-boxes-requires
+    slice-aggregate-build
+    slice-aggregate-build-2
+    slice-aggregate-build-3
+    build-requires
+    put-built-requires
     returns-2
     put-place-requires
     returns-3)

@@ -18,18 +18,6 @@ lent :
     Lent (a .n) (a .m) (rows (a .tails .now) (a .heads .now) (a .weights .now)) (a .x .now) (a .y .now) (a .boxes .now)
 lent c e = build-fine _ _ _ _ _ _ (sym (c .judge-build .ensures) ∙ e)
 
-judge-build-requires : tie.Need-judge-build-requires
-judge-build-requires c κs = search needs
-
-enum-told : tie.Need-enum-told
-enum-told c = search needs
-
-enum-told-2 : tie.Need-enum-told-2
-enum-told-2 c = search needs
-
-same-length : tie.Need-same-length
-same-length c = search needs
-
 returns : tie.Need-returns
 returns c = let e = c .enum-told2 .given .1 in rw e (BuildSays.refused (sym (c .before .before .judge-build .ensures) ∙ e))
 
@@ -43,9 +31,6 @@ grow-all-requires c κs =
     let l = lent (c .before .before .before .before .before .before) (c .before .before .before .before .enum-told .given .1) in
     (l .sound, l .x-long, l .y-long, omega (arith, l .boxes-long, c .before .before .start-all .ensures .long))
 
-same-length-2 : tie.Need-same-length-2
-same-length-2 c = search needs
-
 returns-2 : tie.Need-returns-2
 returns-2 c =
     let j = c .before .before .before .before .before .before .before .before in
@@ -56,12 +41,12 @@ pub build-spec : {M : Type 1} → statement M
 build-spec =
     tie.close
     (tie.spec
-    judge-build-requires
-    enum-told
-    enum-told-2
-    same-length
+    (λ c κs. search needs)
+    (λ c. search needs)
+    (λ c. search needs)
+    (λ c. search needs)
     returns
     start-all-requires
     grow-all-requires
-    same-length-2
+    (λ c. search needs)
     returns-2)

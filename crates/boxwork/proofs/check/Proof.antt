@@ -17,26 +17,11 @@ lent :
     Lent (a .n) (a .m) (rows (a .tails .now) (a .heads .now) (a .weights .now)) (a .x .now) (a .y .now) (a .boxes .now)
 lent c e = build-fine _ _ _ _ _ _ (check-fine _ _ _ _ _ _ (sym (c .judge-check .ensures) ∙ e) .0)
 
-judge-check-requires : tie.Need-judge-check-requires
-judge-check-requires c κs = search needs
-
-enum-told : tie.Need-enum-told
-enum-told c = search needs
-
-enum-told-2 : tie.Need-enum-told-2
-enum-told-2 c = search needs
-
 returns : tie.Need-returns
 returns c = let e = c .enum-told2 .given .1 in rw e (CheckSays.refused (sym (c .before .before .judge-check .ensures) ∙ e))
 
 find-missed-requires : tie.Need-find-missed-requires
 find-missed-requires c κs = let l = lent (c .before .before) (c .enum-told .given .1) in (l .sound, l .x-long, l .y-long, l .boxes-long)
-
-enum-known-missed : tie.Need-enum-known-missed
-enum-known-missed c = search needs
-
-enum-told-3 : tie.Need-enum-told-3
-enum-told-3 c = search needs
 
 returns-2 : tie.Need-returns-2
 returns-2 c =
@@ -54,12 +39,12 @@ pub check-spec : {M : Type 1} → statement M
 check-spec =
     tie.close
     (tie.spec
-    judge-check-requires
-    enum-told
-    enum-told-2
+    (λ c κs. search needs)
+    (λ c. search needs)
+    (λ c. search needs)
     returns
     find-missed-requires
-    enum-known-missed
-    enum-told-3
+    (λ c. search needs)
+    (λ c. search needs)
     returns-2
     returns-3)

@@ -25,21 +25,6 @@ fine c e =
     let l = build-fine _ _ _ _ _ _ (check-fine _ _ _ _ _ _ (u .0) .0) in
     (l, u .1, u .2, lent-reweighted (l .sound) _ _ (u .1) (u .2) (u .3) l)
 
-judge-update-requires : tie.Need-judge-update-requires
-judge-update-requires c κs = search needs
-
-enum-told : tie.Need-enum-told
-enum-told c = search needs
-
-enum-told-2 : tie.Need-enum-told-2
-enum-told-2 c = search needs
-
-same-length : tie.Need-same-length
-same-length c = search needs
-
-same-length-2 : tie.Need-same-length-2
-same-length-2 c = search needs
-
 returns : tie.Need-returns
 returns c = let e = c .enum-told2 .given .1 in rw e (UpdateSays.refused (sym (c .before .before .judge-update .ensures) ∙ e))
 
@@ -61,12 +46,6 @@ grow-all-requires c κs =
     let l = f .3 in
     (rw (s .set-weight .ensures) (first-arcs (l .sound) _ (omega (arith, f .2))), l .x-long, l .y-long, omega (arith, f .2, l .boxes-long, c .before .before .before .grow-heads .ensures .long))
 
-same-length-3 : tie.Need-same-length-3
-same-length-3 c = search needs
-
-same-length-4 : tie.Need-same-length-4
-same-length-4 c = search needs
-
 returns-2 : tie.Need-returns-2
 returns-2 c =
     let s = c .before .before .before .before .before .before .before .before .before in
@@ -77,15 +56,15 @@ pub update-spec : {M : Type 1} → statement M
 update-spec =
     tie.close
     (tie.spec
-    judge-update-requires
-    enum-told
-    enum-told-2
-    same-length
-    same-length-2
+    (λ c κs. search needs)
+    (λ c. search needs)
+    (λ c. search needs)
+    (λ c. search needs)
+    (λ c. search needs)
     returns
     set-weight-requires
     grow-heads-requires
     grow-all-requires
-    same-length-3
-    same-length-4
+    (λ c. search needs)
+    (λ c. search needs)
     returns-2)

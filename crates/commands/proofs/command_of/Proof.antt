@@ -12,33 +12,6 @@ use borrow.Author.Needs.{needs}
 use Rattle.commands.proofs.command_of.Statement.{statement}
 use Rattle.commands.proofs.command_of.Tie as tie
 
-judge-line-requires : tie.Need-judge-line-requires
-judge-line-requires c κs = search needs
-
-enum-known-judged : tie.Need-enum-known-judged
-enum-known-judged c = search needs
-
-enum-told : tie.Need-enum-told
-enum-told c = search needs
-
-first-word-requires : tie.Need-first-word-requires
-first-word-requires c κs = search needs
-
-verb-of-requires : tie.Need-verb-of-requires
-verb-of-requires c κs = search needs
-
-count-words-requires : tie.Need-count-words-requires
-count-words-requires c κs = search needs
-
-takes-requires : tie.Need-takes-requires
-takes-requires c κs = search needs
-
-after-word-requires : tie.Need-after-word-requires
-after-word-requires c κs = search needs
-
-ask-requires : tie.Need-ask-requires
-ask-requires c κs = search needs
-
 -- the line's bytes are good: its words decide
 words-decide : (c : tie.After-takes)
     → commandOf (c .before .before .before .before .before .before .before .before .args .line .now) ≡ cond (c .takes .result) (asked (c .before .before .verb-of .result) (drop 1 (wordsOf (c .before .before .before .before .before .before .before .before .args .line .now)))) (Faulty WordCount)
@@ -60,15 +33,15 @@ pub command-of-spec : {M : Type 1} → statement M
 command-of-spec =
     tie.close
     (tie.spec
-    judge-line-requires
-    enum-known-judged
-    enum-told
-    first-word-requires
-    verb-of-requires
-    count-words-requires
-    takes-requires
-    after-word-requires
-    ask-requires
+    (λ c κs. search needs)
+    (λ c. search needs)
+    (λ c. search needs)
+    (λ c κs. search needs)
+    (λ c κs. search needs)
+    (λ c κs. search needs)
+    (λ c κs. search needs)
+    (λ c κs. search needs)
+    (λ c κs. search needs)
     returns
     returns-2
     returns-3)

@@ -28,15 +28,6 @@ read-sheet-requires c κs =
     let nodes = two-tests 1 (c .before .before .before .before .args .n) (c .before .before .before .before .args .n) 512 (not-false _ (c .if3 .left)) in
     (c .before .before .if1 .left, nodes .1)
 
-enum-known-judged : tie.Need-enum-known-judged
-enum-known-judged c = search needs
-
-enum-told : tie.Need-enum-told
-enum-told c = search needs
-
-cast-put-integers : tie.Need-cast-put-integers
-cast-put-integers c = search needs
-
 put-integers-requires : tie.Need-put-integers-requires
 put-integers-requires c κs =
     let args = c .before .before .before .before .before .before .before .before .before .args in
@@ -45,9 +36,6 @@ put-integers-requires c κs =
     let room = two-tests 512 (length (args .x .now)) 512 (length (args .y .now)) (not-false _ (c .before .before .before .before .before .before .if2 .left)) in
     omega arith
 
-cast-put-integers-2 : tie.Need-cast-put-integers-2
-cast-put-integers-2 c = search needs
-
 put-integers-requires-2 : tie.Need-put-integers-requires-2
 put-integers-requires-2 c κs =
     let args = c .before .before .before .before .before .before .before .before .before .before .before .before .args in
@@ -55,12 +43,6 @@ put-integers-requires-2 c κs =
     let count = co-count (args .n) (args .text .now) _ _ (nodes .1) (fine-outcome _ _ _ (c .before .before .before .before .before .before .before .read-sheet .ensures) (c .before .before .before .before .before .enum-told .given .1)) in
     let room = two-tests 512 (length (args .x .now)) 512 (length (args .y .now)) (not-false _ (c .before .before .before .before .before .before .before .before .before .if2 .left)) in
     omega arith
-
-same-length : tie.Need-same-length
-same-length c = search needs
-
-same-length-2 : tie.Need-same-length-2
-same-length-2 c = search needs
 
 returns-4 : tie.Need-returns-4
 returns-4 c =
@@ -83,13 +65,13 @@ read-co-spec =
     returns-2
     returns-3
     read-sheet-requires
-    enum-known-judged
-    enum-told
-    cast-put-integers
+    (λ c. search needs)
+    (λ c. search needs)
+    (λ c. search needs)
     put-integers-requires
-    cast-put-integers-2
+    (λ c. search needs)
     put-integers-requires-2
-    same-length
-    same-length-2
+    (λ c. search needs)
+    (λ c. search needs)
     returns-4
     returns-5)

@@ -17,27 +17,12 @@ returns-2 c =
     let args = c .before .before .before .before .before .before .args in
     gr-out _ _ _ _ _ (gr-too-short (args .text .now) (args .tails .now) (args .heads .now) (args .weights .now) (c .before .if1 .left) (not-true _ (c .if2 .taken)))
 
-read-sheet-requires : tie.Need-read-sheet-requires
-read-sheet-requires c κs = search needs
-
-enum-known-judged : tie.Need-enum-known-judged
-enum-known-judged c = search needs
-
-enum-told : tie.Need-enum-told
-enum-told c = search needs
-
-cast-put-naturals : tie.Need-cast-put-naturals
-cast-put-naturals c = search needs
-
 put-naturals-requires : tie.Need-put-naturals-requires
 put-naturals-requires c κs =
     let args = c .before .before .before .before .before .before .before .before .before .before .before .args in
     let count = gr-count (args .text .now) _ _ (fine-outcome _ _ _ (c .before .before .before .before .read-sheet .ensures) (c .before .before .enum-told .given .1)) in
     let room = gr-room (args .tails .now) (args .heads .now) (args .weights .now) (not-false _ (c .before .before .before .before .before .if2 .left)) in
     omega arith
-
-cast-put-naturals-2 : tie.Need-cast-put-naturals-2
-cast-put-naturals-2 c = search needs
 
 put-naturals-requires-2 : tie.Need-put-naturals-requires-2
 put-naturals-requires-2 c κs =
@@ -46,24 +31,12 @@ put-naturals-requires-2 c κs =
     let room = gr-room (args .tails .now) (args .heads .now) (args .weights .now) (not-false _ (c .before .before .before .before .before .before .before .before .before .if2 .left)) in
     omega arith
 
-cast-put-naturals-3 : tie.Need-cast-put-naturals-3
-cast-put-naturals-3 c = search needs
-
 put-naturals-requires-3 : tie.Need-put-naturals-requires-3
 put-naturals-requires-3 c κs =
     let args = c .before .before .before .before .before .before .before .before .before .before .before .before .before .before .before .before .before .before .before .args in
     let count = gr-count (args .text .now) _ _ (fine-outcome _ _ _ (c .before .before .before .before .before .before .before .before .before .before .before .before .read-sheet .ensures) (c .before .before .before .before .before .before .before .before .before .before .enum-told .given .1)) in
     let room = gr-room (args .tails .now) (args .heads .now) (args .weights .now) (not-false _ (c .before .before .before .before .before .before .before .before .before .before .before .before .before .if2 .left)) in
     omega arith
-
-same-length : tie.Need-same-length
-same-length c = search needs
-
-same-length-2 : tie.Need-same-length-2
-same-length-2 c = search needs
-
-same-length-3 : tie.Need-same-length-3
-same-length-3 c = search needs
 
 returns-3 : tie.Need-returns-3
 returns-3 c =
@@ -84,17 +57,17 @@ read-gr-spec =
     (tie.spec
     returns
     returns-2
-    read-sheet-requires
-    enum-known-judged
-    enum-told
-    cast-put-naturals
+    (λ c κs. search needs)
+    (λ c. search needs)
+    (λ c. search needs)
+    (λ c. search needs)
     put-naturals-requires
-    cast-put-naturals-2
+    (λ c. search needs)
     put-naturals-requires-2
-    cast-put-naturals-3
+    (λ c. search needs)
     put-naturals-requires-3
-    same-length
-    same-length-2
-    same-length-3
+    (λ c. search needs)
+    (λ c. search needs)
+    (λ c. search needs)
     returns-3
     returns-4)

@@ -5,39 +5,6 @@ use borrow.Author.Needs.{needs}
 use Rattle.geometry.proofs.grow_box.Statement.{statement}
 use Rattle.geometry.proofs.grow_box.Tie as tie
 
-sub-at : tie.Need-sub-at
-sub-at c = search needs
-
-mul-at : tie.Need-mul-at
-mul-at c = search needs
-
-smaller-at-requires : tie.Need-smaller-at-requires
-smaller-at-requires c κs = search needs
-
-add-larger-at : tie.Need-add-larger-at
-add-larger-at c = search needs
-
-larger-at-requires : tie.Need-larger-at-requires
-larger-at-requires c κs = search needs
-
-add-smaller-at : tie.Need-add-smaller-at
-add-smaller-at c = search needs
-
-smaller-at-requires-2 : tie.Need-smaller-at-requires-2
-smaller-at-requires-2 c κs = search needs
-
-add-larger-at-2 : tie.Need-add-larger-at-2
-add-larger-at-2 c = search needs
-
-larger-at-requires-2 : tie.Need-larger-at-requires-2
-larger-at-requires-2 c κs = search needs
-
-store-requires : tie.Need-store-requires
-store-requires c κs = search needs
-
-same-length : tie.Need-same-length
-same-length c = search needs
-
 returns : tie.Need-returns
 returns c =
     let s = c .before .before .before .before .before .before .before .before .before .before .before in
@@ -53,15 +20,15 @@ pub grow-box-spec : {M : Type 1} → statement M
 grow-box-spec =
     tie.close
     (tie.spec
-    sub-at
-    mul-at
-    smaller-at-requires
-    add-larger-at
-    larger-at-requires
-    add-smaller-at
-    smaller-at-requires-2
-    add-larger-at-2
-    larger-at-requires-2
-    store-requires
-    same-length
+    (λ c. search needs)
+    (λ c. search needs)
+    (λ c κs. search needs)
+    (λ c. search needs)
+    (λ c κs. search needs)
+    (λ c. search needs)
+    (λ c κs. search needs)
+    (λ c. search needs)
+    (λ c κs. search needs)
+    (λ c κs. search needs)
+    (λ c. search needs)
     returns)

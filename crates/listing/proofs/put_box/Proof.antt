@@ -12,57 +12,6 @@ use borrow.Author.Needs.{needs}
 use Rattle.listing.proofs.put_box.Statement.{statement}
 use Rattle.listing.proofs.put_box.Tie as tie
 
-mul-put-number-field : tie.Need-mul-put-number-field
-mul-put-number-field c = search needs
-
-shared-slice-copy-out-put-number-field : tie.Need-shared-slice-copy-out-put-number-field
-shared-slice-copy-out-put-number-field c = search needs
-
-put-number-field-requires : tie.Need-put-number-field-requires
-put-number-field-requires c κs = search needs
-
-add-put-number-field : tie.Need-add-put-number-field
-add-put-number-field c = search needs
-
-mul-put-number-field-2 : tie.Need-mul-put-number-field-2
-mul-put-number-field-2 c = search needs
-
-shared-slice-copy-out-put-number-field-2 : tie.Need-shared-slice-copy-out-put-number-field-2
-shared-slice-copy-out-put-number-field-2 c = search needs
-
-put-number-field-requires-2 : tie.Need-put-number-field-requires-2
-put-number-field-requires-2 c κs = search needs
-
-add-put-number-field-2 : tie.Need-add-put-number-field-2
-add-put-number-field-2 c = search needs
-
-mul-put-number-field-3 : tie.Need-mul-put-number-field-3
-mul-put-number-field-3 c = search needs
-
-shared-slice-copy-out-put-number-field-3 : tie.Need-shared-slice-copy-out-put-number-field-3
-shared-slice-copy-out-put-number-field-3 c = search needs
-
-put-number-field-requires-3 : tie.Need-put-number-field-requires-3
-put-number-field-requires-3 c κs = search needs
-
-add-put-number : tie.Need-add-put-number
-add-put-number c = search needs
-
-mul-put-number : tie.Need-mul-put-number
-mul-put-number c = search needs
-
-shared-slice-copy-out-put-number : tie.Need-shared-slice-copy-out-put-number
-shared-slice-copy-out-put-number c = search needs
-
-put-number-requires : tie.Need-put-number-requires
-put-number-requires c κs = search needs
-
-slice-aggregate-put : tie.Need-slice-aggregate-put
-slice-aggregate-put c = search needs
-
-put-requires : tie.Need-put-requires
-put-requires c κs = search needs
-
 returns : tie.Need-returns
 unfolding bytes
 returns c =
@@ -80,21 +29,21 @@ pub put-box-spec : {M : Type 1} → statement M
 put-box-spec =
     tie.close
     (tie.spec
-    mul-put-number-field
-    shared-slice-copy-out-put-number-field
-    put-number-field-requires
-    add-put-number-field
-    mul-put-number-field-2
-    shared-slice-copy-out-put-number-field-2
-    put-number-field-requires-2
-    add-put-number-field-2
-    mul-put-number-field-3
-    shared-slice-copy-out-put-number-field-3
-    put-number-field-requires-3
-    add-put-number
-    mul-put-number
-    shared-slice-copy-out-put-number
-    put-number-requires
-    slice-aggregate-put
-    put-requires
+    (λ c. search needs)
+    (λ c. search needs)
+    (λ c κs. search needs)
+    (λ c. search needs)
+    (λ c. search needs)
+    (λ c. search needs)
+    (λ c κs. search needs)
+    (λ c. search needs)
+    (λ c. search needs)
+    (λ c. search needs)
+    (λ c κs. search needs)
+    (λ c. search needs)
+    (λ c. search needs)
+    (λ c. search needs)
+    (λ c κs. search needs)
+    (λ c. search needs)
+    (λ c κs. search needs)
     returns)

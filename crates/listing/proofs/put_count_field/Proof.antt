@@ -7,19 +7,10 @@ use borrow.Author.Needs.{needs}
 use Rattle.listing.proofs.put_count_field.Statement.{statement}
 use Rattle.listing.proofs.put_count_field.Tie as tie
 
-put-count-requires : tie.Need-put-count-requires
-put-count-requires c κs = search needs
-
-slice-aggregate-put : tie.Need-slice-aggregate-put
-slice-aggregate-put c = search needs
-
-put-requires : tie.Need-put-requires
-put-requires c κs = search needs
-
 returns : tie.Need-returns
 unfolding bytes
 returns c = (puts-both (c .before .before .before .put-count .ensures .0) (c .put .ensures), omega arith)
 
 pub put-count-field-spec : {M : Type 1} → statement M
 put-count-field-spec =
-    tie.close (tie.spec put-count-requires slice-aggregate-put put-requires returns)
+    tie.close (tie.spec (λ c κs. search needs) (λ c. search needs) (λ c κs. search needs) returns)

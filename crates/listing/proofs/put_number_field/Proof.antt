@@ -11,15 +11,6 @@ use borrow.Author.Needs.{needs}
 use Rattle.listing.proofs.put_number_field.Statement.{statement}
 use Rattle.listing.proofs.put_number_field.Tie as tie
 
-put-number-requires : tie.Need-put-number-requires
-put-number-requires c κs = search needs
-
-slice-aggregate-put : tie.Need-slice-aggregate-put
-slice-aggregate-put c = search needs
-
-put-requires : tie.Need-put-requires
-put-requires c κs = search needs
-
 returns : tie.Need-returns
 unfolding bytes
 returns c =
@@ -29,4 +20,4 @@ returns c =
 
 pub put-number-field-spec : {M : Type 1} → statement M
 put-number-field-spec =
-    tie.close (tie.spec put-number-requires slice-aggregate-put put-requires returns)
+    tie.close (tie.spec (λ c κs. search needs) (λ c. search needs) (λ c κs. search needs) returns)

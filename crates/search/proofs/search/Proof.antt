@@ -9,15 +9,6 @@ use Rattle.search.specs.Networks.{answers-alike, all-arcs}
 use Rattle.search.proofs.search.Statement.{statement}
 use Rattle.search.proofs.search.Tie as tie
 
-judge-search-requires : tie.Need-judge-search-requires
-judge-search-requires c κs = search needs
-
-enum-known-j : tie.Need-enum-known-j
-enum-known-j c = search needs
-
-enum-told : tie.Need-enum-told
-enum-told c = search needs
-
 -- what is lent, where it was judged fine
 fine :
     (c : tie.After-enum-told) →
@@ -25,16 +16,10 @@ fine :
     Lent (a .n) (a .m) (rows (a .tails .now) (a .heads .now) (a .weights .now)) (a .s) (a .t) (length (a .route .now))
 fine c = search-fine _ _ _ _ _ _ (sym (c .before .before .judge-search .ensures) ∙ c .enum-told .given .1)
 
-slice-aggregate-find : tie.Need-slice-aggregate-find
-slice-aggregate-find c = search needs
-
 find-requires : tie.Need-find-requires
 find-requires c κs =
     let l = fine (c .before .before) in
     (l .sound, tt, l .source-low, l .source-high, l .target-low, l .target-high, l .room)
-
-same-length : tie.Need-same-length
-same-length c = search needs
 
 returns : tie.Need-returns
 returns c =
@@ -47,11 +32,11 @@ pub search-spec : {M : Type 1} → statement M
 search-spec =
     tie.close
     (tie.spec
-    judge-search-requires
-    enum-known-j
-    enum-told
-    slice-aggregate-find
+    (λ c κs. search needs)
+    (λ c. search needs)
+    (λ c. search needs)
+    (λ c. search needs)
     find-requires
-    same-length
+    (λ c. search needs)
     returns
     returns-2)

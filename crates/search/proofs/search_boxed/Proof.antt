@@ -13,15 +13,6 @@ use Rattle.search.specs.Networks.{answers-alike, held-arcs}
 use Rattle.search.proofs.search_boxed.Statement.{statement}
 use Rattle.search.proofs.search_boxed.Tie as tie
 
-judge-boxed-requires : tie.Need-judge-boxed-requires
-judge-boxed-requires c κs = search needs
-
-enum-known-j : tie.Need-enum-known-j
-enum-known-j c = search needs
-
-enum-told : tie.Need-enum-told
-enum-told c = search needs
-
 -- what is lent, where it was judged fine
 fine :
     (c : tie.After-enum-told) →
@@ -35,14 +26,8 @@ fine c = boxed-fine _ _ _ _ _ _ _ _ _ (sym (c .before .before .judge-boxed .ensu
 sub-at : tie.Need-sub-at
 sub-at c = let f = fine c in omega (arith, f .0)
 
-mul-t18 : tie.Need-mul-t18
-mul-t18 c = search needs
-
 shared-slice-copy-out-t20 : tie.Need-shared-slice-copy-out-t20
 shared-slice-copy-out-t20 c = let f = fine c in omega (arith, f .0)
-
-mul-t21 : tie.Need-mul-t21
-mul-t21 c = search needs
 
 shared-slice-copy-out-t23 : tie.Need-shared-slice-copy-out-t23
 shared-slice-copy-out-t23 c = let f = fine (c .before) in omega (arith, f .0)
@@ -52,9 +37,6 @@ find-requires c κs =
     let f = fine (c .before .before .before) in
     let l = f .0 in
     (l .sound, f .3, l .source-low, l .source-high, l .target-low, l .target-high, l .room)
-
-same-length : tie.Need-same-length
-same-length c = search needs
 
 returns : tie.Need-returns
 returns c =
@@ -69,15 +51,15 @@ pub search-boxed-spec : {M : Type 1} → statement M
 search-boxed-spec =
     tie.close
     (tie.spec
-    judge-boxed-requires
-    enum-known-j
-    enum-told
+    (λ c κs. search needs)
+    (λ c. search needs)
+    (λ c. search needs)
     sub-at
-    mul-t18
+    (λ c. search needs)
     shared-slice-copy-out-t20
-    mul-t21
+    (λ c. search needs)
     shared-slice-copy-out-t23
     find-requires
-    same-length
+    (λ c. search needs)
     returns
     returns-2)

@@ -46,12 +46,6 @@ part-write-all-start c = omega arith
 part-write-all-end : tie.Need-part-write-all-end Inv-loop μ-loop
 part-write-all-end c = omega arith
 
-write-all-requires : tie.Need-write-all-requires Inv-loop μ-loop
-write-all-requires c κs = search needs
-
-returns : tie.Need-returns Inv-loop μ-loop
-returns c = search needs
-
 pub put-spec : {M : Type 1} → statement M
 put-spec =
     tie.close
@@ -68,5 +62,5 @@ put-spec =
     sub-write-all
     part-write-all-start
     part-write-all-end
-    write-all-requires
-    returns)
+    (λ c κs. search needs)
+    (λ c. search needs))

@@ -21,9 +21,6 @@ mul-put c = omega arith
 shared-slice-read-put : tie.Need-shared-slice-read-put Inv-loop μ-loop
 shared-slice-read-put c = omega arith
 
-put-requires : tie.Need-put-requires Inv-loop μ-loop
-put-requires c κs = search needs
-
 add-i : tie.Need-add-i Inv-loop μ-loop
 add-i c = omega arith
 
@@ -32,9 +29,6 @@ loop-less c = omega arith
 
 loop-again : tie.Need-loop-again Inv-loop μ-loop
 loop-again c = omega arith
-
-returns : tie.Need-returns Inv-loop μ-loop
-returns c = search needs
 
 pub put-route-spec : {M : Type 1} → statement M
 put-route-spec =
@@ -45,8 +39,8 @@ put-route-spec =
     loop-holds
     mul-put
     shared-slice-read-put
-    put-requires
+    (λ c κs. search needs)
     add-i
     loop-less
     loop-again
-    returns)
+    (λ c. search needs))

@@ -26,20 +26,11 @@ module _ (toward : Toward) (x y : ℤ) (place : toward ≡ Place x y) where
       SFits w32 x → SFits w32 y → r ≡ holdsB (boxOf boxes e) (toZ w32 (ofZ w32 x)) (toZ w32 (ofZ w32 y)) → r ≡ keeps toward boxes e
   held e boxes fx fy h = rw place (rw (toZ-ofZ fx, toZ-ofZ fy) at h)
 
-enum-told : tie.Need-enum-told
-enum-told c = search needs
-
-enum-known-toward : tie.Need-enum-known-toward
-enum-known-toward c = search needs
-
 holds-requires : tie.Need-holds-requires
 holds-requires c κs =
     let s = c .before .before .before in
     let g = c .before .toward .given in
     (s .pre .0, room (s .args .toward) _ _ (g .1) (s .args .e) (s .args .boxes .now) (s .pre .1))
-
-returns : tie.Need-returns
-returns c = search needs
 
 returns-2 : tie.Need-returns-2
 returns-2 c =
@@ -49,4 +40,4 @@ returns-2 c =
     held (a .toward) _ _ (g .1) (a .e) (a .boxes .now) (record { sfits = k .0 .1 }) (record { sfits = k .1 .0 .1 }) (c .holds .ensures)
 
 pub passes-spec : {M : Type 1} → statement M
-passes-spec = tie.close (tie.spec enum-told enum-known-toward holds-requires returns returns-2)
+passes-spec = tie.close (tie.spec (λ c. search needs) (λ c. search needs) holds-requires (λ c. search needs) returns-2)

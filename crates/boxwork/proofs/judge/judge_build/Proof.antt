@@ -16,18 +16,6 @@ told :
     c .judge-network .result ≡ networkJudged (a .n) (a .m) (rows (a .tails .now) (a .heads .now) (a .weights .now)) (boxRowsLong (a .n) (a .m) (a .x .now) (a .y .now) (a .boxes .now))
 told c = rw (c .before .box-rows-long .ensures) at (c .judge-network .ensures)
 
-box-rows-long-requires : tie.Need-box-rows-long-requires
-box-rows-long-requires c κs = search needs
-
-judge-network-requires : tie.Need-judge-network-requires
-judge-network-requires c κs = search needs
-
-enum-told : tie.Need-enum-told
-enum-told c = search needs
-
-enum-told-2 : tie.Need-enum-told-2
-enum-told-2 c = search needs
-
 returns : tie.Need-returns
 returns c = out _ (told (c .before .before)) (c .enum-told2 .given .1) ∙ sym (build-judged _ _ _ _ _ _)
 
@@ -45,10 +33,10 @@ pub judge-build-spec : {M : Type 1} → statement M
 judge-build-spec =
     tie.close
     (tie.spec
-    box-rows-long-requires
-    judge-network-requires
-    enum-told
-    enum-told-2
+    (λ c κs. search needs)
+    (λ c κs. search needs)
+    (λ c. search needs)
+    (λ c. search needs)
     returns
     judge-places-requires
     returns-2)

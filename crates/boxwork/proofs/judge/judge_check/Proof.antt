@@ -6,15 +6,6 @@ use Rattle.boxwork.specs.JudgeLaws.{build-fine, check-judged}
 use Rattle.boxwork.proofs.judge.judge_check.Statement.{statement}
 use Rattle.boxwork.proofs.judge.judge_check.Tie as tie
 
-judge-build-requires : tie.Need-judge-build-requires
-judge-build-requires c κs = search needs
-
-enum-told : tie.Need-enum-told
-enum-told c = search needs
-
-enum-told-2 : tie.Need-enum-told-2
-enum-told-2 c = search needs
-
 returns : tie.Need-returns
 returns c = out _ (c .before .before .judge-build .ensures) (c .enum-told2 .given .1) ∙ sym (check-judged _ _ _ _ _ _)
 
@@ -29,4 +20,4 @@ returns-2 c = on (c .before .before .before .judge-build .ensures) (c .before .e
 pub judge-check-spec : {M : Type 1} → statement M
 judge-check-spec =
     tie.close
-    (tie.spec judge-build-requires enum-told enum-told-2 returns judge-boxes-requires returns-2)
+    (tie.spec (λ c κs. search needs) (λ c. search needs) (λ c. search needs) returns judge-boxes-requires returns-2)

@@ -6,105 +6,6 @@ use borrow.Author.Needs.{needs}
 use Rattle.commands.proofs.arguments.ask.Statement.{statement}
 use Rattle.commands.proofs.arguments.ask.Tie as tie
 
-enum-told : tie.Need-enum-told
-enum-told c = search needs
-
-first-word-requires : tie.Need-first-word-requires
-first-word-requires c κs = search needs
-
-read-count-requires : tie.Need-read-count-requires
-read-count-requires c κs = search needs
-
-enum-known-n : tie.Need-enum-known-n
-enum-known-n c = search needs
-
-enum-known-fault : tie.Need-enum-known-fault
-enum-known-fault c = search needs
-
-enum-told-2 : tie.Need-enum-told-2
-enum-told-2 c = search needs
-
-first-word-requires-2 : tie.Need-first-word-requires-2
-first-word-requires-2 c κs = search needs
-
-read-count-requires-2 : tie.Need-read-count-requires-2
-read-count-requires-2 c κs = search needs
-
-enum-known-m : tie.Need-enum-known-m
-enum-known-m c = search needs
-
-enum-known-fault-2 : tie.Need-enum-known-fault-2
-enum-known-fault-2 c = search needs
-
-enum-told-3 : tie.Need-enum-told-3
-enum-told-3 c = search needs
-
-lend-of-requires : tie.Need-lend-of-requires
-lend-of-requires c κs = search needs
-
-enum-told-4 : tie.Need-enum-told-4
-enum-told-4 c = search needs
-
-show-of-requires : tie.Need-show-of-requires
-show-of-requires c κs = search needs
-
-enum-told-5 : tie.Need-enum-told-5
-enum-told-5 c = search needs
-
-enum-told-6 : tie.Need-enum-told-6
-enum-told-6 c = search needs
-
-enum-told-7 : tie.Need-enum-told-7
-enum-told-7 c = search needs
-
-enum-told-8 : tie.Need-enum-told-8
-enum-told-8 c = search needs
-
-enum-told-9 : tie.Need-enum-told-9
-enum-told-9 c = search needs
-
-read-pair-requires : tie.Need-read-pair-requires
-read-pair-requires c κs = search needs
-
-enum-known-arc : tie.Need-enum-known-arc
-enum-known-arc c = search needs
-
-enum-known-fault-3 : tie.Need-enum-known-fault-3
-enum-known-fault-3 c = search needs
-
-enum-told-10 : tie.Need-enum-told-10
-enum-told-10 c = search needs
-
-read-pair-requires-2 : tie.Need-read-pair-requires-2
-read-pair-requires-2 c κs = search needs
-
-enum-known-s : tie.Need-enum-known-s
-enum-known-s c = search needs
-
-enum-known-fault-4 : tie.Need-enum-known-fault-4
-enum-known-fault-4 c = search needs
-
-enum-told-11 : tie.Need-enum-told-11
-enum-told-11 c = search needs
-
-read-pair-requires-3 : tie.Need-read-pair-requires-3
-read-pair-requires-3 c κs = search needs
-
-enum-known-s-2 : tie.Need-enum-known-s-2
-enum-known-s-2 c = search needs
-
-enum-known-fault-5 : tie.Need-enum-known-fault-5
-enum-known-fault-5 c = search needs
-
-enum-told-12 : tie.Need-enum-told-12
-enum-told-12 c = search needs
-
-enum-told-13 : tie.Need-enum-told-13
-enum-told-13 c = search needs
-
-enum-told-14 : tie.Need-enum-told-14
-enum-told-14 c = search needs
-
 returns : tie.Need-returns
 unfolding asked
 returns c = rw (c .before .before .before .before .before .enum-told .given .1) (sym (number-is _ _ _ _ _ (c .before .before .before .before .first-word .ensures) (c .before .before .before .read-count .ensures) (c .before .n .given .1)))
@@ -185,39 +86,39 @@ pub ask-spec : {M : Type 1} → statement M
 ask-spec =
     tie.close
     (tie.spec
-    enum-told
-    first-word-requires
-    read-count-requires
-    enum-known-n
-    enum-known-fault
-    enum-told-2
-    first-word-requires-2
-    read-count-requires-2
-    enum-known-m
-    enum-known-fault-2
-    enum-told-3
-    lend-of-requires
-    enum-told-4
-    show-of-requires
-    enum-told-5
-    enum-told-6
-    enum-told-7
-    enum-told-8
-    enum-told-9
-    read-pair-requires
-    enum-known-arc
-    enum-known-fault-3
-    enum-told-10
-    read-pair-requires-2
-    enum-known-s
-    enum-known-fault-4
-    enum-told-11
-    read-pair-requires-3
-    enum-known-s-2
-    enum-known-fault-5
-    enum-told-12
-    enum-told-13
-    enum-told-14
+    (λ c. search needs)
+    (λ c κs. search needs)
+    (λ c κs. search needs)
+    (λ c. search needs)
+    (λ c. search needs)
+    (λ c. search needs)
+    (λ c κs. search needs)
+    (λ c κs. search needs)
+    (λ c. search needs)
+    (λ c. search needs)
+    (λ c. search needs)
+    (λ c κs. search needs)
+    (λ c. search needs)
+    (λ c κs. search needs)
+    (λ c. search needs)
+    (λ c. search needs)
+    (λ c. search needs)
+    (λ c. search needs)
+    (λ c. search needs)
+    (λ c κs. search needs)
+    (λ c. search needs)
+    (λ c. search needs)
+    (λ c. search needs)
+    (λ c κs. search needs)
+    (λ c. search needs)
+    (λ c. search needs)
+    (λ c. search needs)
+    (λ c κs. search needs)
+    (λ c. search needs)
+    (λ c. search needs)
+    (λ c. search needs)
+    (λ c. search needs)
+    (λ c. search needs)
     returns
     returns-2
     returns-3

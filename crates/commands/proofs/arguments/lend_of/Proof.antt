@@ -9,30 +9,9 @@ use borrow.Author.Needs.{needs}
 use Rattle.commands.proofs.arguments.lend_of.Statement.{statement}
 use Rattle.commands.proofs.arguments.lend_of.Tie as tie
 
-first-word-requires : tie.Need-first-word-requires
-first-word-requires c κs = search needs
-
-row-of-requires : tie.Need-row-of-requires
-row-of-requires c κs = search needs
-
-enum-known-name : tie.Need-enum-known-name
-enum-known-name c = search needs
-
-enum-told : tie.Need-enum-told
-enum-told c = search needs
-
 returns : tie.Need-returns
 unfolding asked
 returns c = sym (row-unknown _ _ _ _ (c .before .before .before .first-word .ensures) (c .before .before .row-of .ensures) (c .enum-told .given .1))
-
-after-word-requires : tie.Need-after-word-requires
-after-word-requires c κs = search needs
-
-places-requires : tie.Need-places-requires
-places-requires c κs = search needs
-
-count-words-requires : tie.Need-count-words-requires
-count-words-requires c κs = search needs
 
 -- the row is known, and the values stand after its name
 known : (c : tie.After-after-word) → asked Lend (wordsOf (c .before .before .before .before .before .before .before .args .words .now)) ≡ lendAsked (wordsOf (c .after-word .result .now)) (c .before .before .name .given .0 .0)
@@ -41,18 +20,6 @@ known c = row-known lendAsked _ _ _ _ _ (c .before .before .before .before .befo
 
 returns-2 : tie.Need-returns-2
 returns-2 c = sym (known (c .before .before .before) ∙ lend-long _ _ _ _ (c .before .count-words .ensures) (c .before .before .places .ensures) (c .if1 .taken))
-
-is-signed-requires : tie.Need-is-signed-requires
-is-signed-requires c κs = search needs
-
-judge-values-requires : tie.Need-judge-values-requires
-judge-values-requires c κs = search needs
-
-enum-known-judged : tie.Need-enum-known-judged
-enum-known-judged c = search needs
-
-enum-told-2 : tie.Need-enum-told-2
-enum-told-2 c = search needs
 
 -- there is room for the values, and they are judged
 fits : (c : tie.After-judge-values) → asked Lend (wordsOf (c .before .before .before .before .before .before .before .before .before .before .before .before .args .words .now)) ≡ onceGood (c .judge-values .result) (command.Lend (c .before .before .before .before .before .before .before .name .given .0 .0))
@@ -70,18 +37,18 @@ pub lend-of-spec : {M : Type 1} → statement M
 lend-of-spec =
     tie.close
     (tie.spec
-    first-word-requires
-    row-of-requires
-    enum-known-name
-    enum-told
+    (λ c κs. search needs)
+    (λ c κs. search needs)
+    (λ c. search needs)
+    (λ c. search needs)
     returns
-    after-word-requires
-    places-requires
-    count-words-requires
+    (λ c κs. search needs)
+    (λ c κs. search needs)
+    (λ c κs. search needs)
     returns-2
-    is-signed-requires
-    judge-values-requires
-    enum-known-judged
-    enum-told-2
+    (λ c κs. search needs)
+    (λ c κs. search needs)
+    (λ c. search needs)
+    (λ c. search needs)
     returns-3
     returns-4)

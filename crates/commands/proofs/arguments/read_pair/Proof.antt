@@ -9,33 +9,6 @@ use borrow.Author.Needs.{needs}
 use Rattle.commands.proofs.arguments.read_pair.Statement.{statement}
 use Rattle.commands.proofs.arguments.read_pair.Tie as tie
 
-first-word-requires : tie.Need-first-word-requires
-first-word-requires c κs = search needs
-
-read-count-requires : tie.Need-read-count-requires
-read-count-requires c κs = search needs
-
-after-word-requires : tie.Need-after-word-requires
-after-word-requires c κs = search needs
-
-first-word-requires-2 : tie.Need-first-word-requires-2
-first-word-requires-2 c κs = search needs
-
-read-count-requires-2 : tie.Need-read-count-requires-2
-read-count-requires-2 c κs = search needs
-
-enum-known-a : tie.Need-enum-known-a
-enum-known-a c = search needs
-
-enum-known-a-2 : tie.Need-enum-known-a-2
-enum-known-a-2 c = search needs
-
-enum-known-b : tie.Need-enum-known-b
-enum-known-b c = search needs
-
-enum-known-b-2 : tie.Need-enum-known-b-2
-enum-known-b-2 c = search needs
-
 -- the two words that are read are the first and the second
 read-both : (c : tie.After-read-count2)
     → pairOf (c .before .before .before .read-count .result) (c .read-count2 .result) ≡ pairIn (wordsOf (c .before .before .before .before .before .before .args .words .now))
@@ -61,15 +34,15 @@ pub read-pair-spec : {M : Type 1} → statement M
 read-pair-spec =
     tie.close
     (tie.spec
-    first-word-requires
-    read-count-requires
-    after-word-requires
-    first-word-requires-2
-    read-count-requires-2
-    enum-known-a
-    enum-known-a-2
-    enum-known-b
-    enum-known-b-2
+    (λ c κs. search needs)
+    (λ c κs. search needs)
+    (λ c κs. search needs)
+    (λ c κs. search needs)
+    (λ c κs. search needs)
+    (λ c. search needs)
+    (λ c. search needs)
+    (λ c. search needs)
+    (λ c. search needs)
     returns
     returns-2
     returns-3)

@@ -8,24 +8,9 @@ use borrow.Author.Needs.{needs}
 use Rattle.commands.proofs.arguments.show_of.Statement.{statement}
 use Rattle.commands.proofs.arguments.show_of.Tie as tie
 
-first-word-requires : tie.Need-first-word-requires
-first-word-requires c κs = search needs
-
-row-of-requires : tie.Need-row-of-requires
-row-of-requires c κs = search needs
-
-enum-known-name : tie.Need-enum-known-name
-enum-known-name c = search needs
-
-enum-told : tie.Need-enum-told
-enum-told c = search needs
-
 returns : tie.Need-returns
 unfolding asked
 returns c = sym (row-unknown _ _ _ _ (c .before .before .before .first-word .ensures) (c .before .before .row-of .ensures) (c .enum-told .given .1))
-
-after-word-requires : tie.Need-after-word-requires
-after-word-requires c κs = search needs
 
 -- the row is known, and the count stands after its name
 known : (c : tie.After-after-word) → asked Show (wordsOf (c .before .before .before .before .before .before .before .args .words .now)) ≡ showAsked (wordsOf (c .after-word .result .now)) (c .before .before .name .given .0 .0)
@@ -34,18 +19,6 @@ known c = row-known showAsked _ _ _ _ _ (c .before .before .before .before .befo
 
 returns-2 : tie.Need-returns-2
 returns-2 c = sym (known (c .before) ∙ show-all _ _ (c .if1 .taken))
-
-first-word-requires-2 : tie.Need-first-word-requires-2
-first-word-requires-2 c κs = search needs
-
-read-count-requires : tie.Need-read-count-requires
-read-count-requires c κs = search needs
-
-enum-known-k : tie.Need-enum-known-k
-enum-known-k c = search needs
-
-enum-known-fault : tie.Need-enum-known-fault
-enum-known-fault c = search needs
 
 returns-3 : tie.Need-returns-3
 returns-3 c =
@@ -61,16 +34,16 @@ pub show-of-spec : {M : Type 1} → statement M
 show-of-spec =
     tie.close
     (tie.spec
-    first-word-requires
-    row-of-requires
-    enum-known-name
-    enum-told
+    (λ c κs. search needs)
+    (λ c κs. search needs)
+    (λ c. search needs)
+    (λ c. search needs)
     returns
-    after-word-requires
+    (λ c κs. search needs)
     returns-2
-    first-word-requires-2
-    read-count-requires
-    enum-known-k
-    enum-known-fault
+    (λ c κs. search needs)
+    (λ c κs. search needs)
+    (λ c. search needs)
+    (λ c. search needs)
     returns-3
     returns-4)

@@ -12,18 +12,9 @@ use Rattle.commands.proofs.faults.judge_line.Tie as tie
 returns : tie.Need-returns
 returns c = sym (line-empty (c .before .before .args .line .now) (c .if1 .taken))
 
-holds-byte-requires : tie.Need-holds-byte-requires
-holds-byte-requires c κs = search needs
-
-holds-byte-requires-2 : tie.Need-holds-byte-requires-2
-holds-byte-requires-2 c κs = search needs
-
 returns-2 : tie.Need-returns-2
 returns-2 c =
     sym (line-control _ _ _ (c .before .before .before .if1 .left) (c .before .before .holds-byte .ensures) (c .before .holds-byte2 .ensures) (c .if2 .taken))
-
-are-apart-requires : tie.Need-are-apart-requires
-are-apart-requires c κs = search needs
 
 -- no control byte: the words decide
 words-decide : (c : tie.After-are-apart) → cond (c .are-apart .result) Good (Bad EmptyWord) ≡ lineJudged (c .before .before .before .before .before .before .args .line .now)
@@ -41,9 +32,9 @@ judge-line-spec =
     tie.close
     (tie.spec
     returns
-    holds-byte-requires
-    holds-byte-requires-2
+    (λ c κs. search needs)
+    (λ c κs. search needs)
     returns-2
-    are-apart-requires
+    (λ c κs. search needs)
     returns-3
     returns-4)

@@ -6,15 +6,6 @@ use borrow.Author.Needs.{needs}
 use Rattle.commands.proofs.faults.judge_value.Statement.{statement}
 use Rattle.commands.proofs.faults.judge_value.Tie as tie
 
-read-signed-requires : tie.Need-read-signed-requires
-read-signed-requires c κs = search needs
-
-enum-known-z : tie.Need-enum-known-z
-enum-known-z c = search needs
-
-enum-told : tie.Need-enum-told
-enum-told c = search needs
-
 returns : tie.Need-returns
 unfolding signedJudged
 returns c =
@@ -24,15 +15,6 @@ returns-2 : tie.Need-returns-2
 unfolding signedJudged
 returns-2 c =
     sym (value-signed _ _ _ (c .before .before .before .before .if1 .taken) (c .before .before .before .read-signed .ensures) ∙ ap signedJudged (c .before .z .given .1))
-
-read-count-requires : tie.Need-read-count-requires
-read-count-requires c κs = search needs
-
-enum-known-n : tie.Need-enum-known-n
-enum-known-n c = search needs
-
-enum-told-2 : tie.Need-enum-told-2
-enum-told-2 c = search needs
 
 returns-3 : tie.Need-returns-3
 unfolding countJudged
@@ -48,13 +30,13 @@ pub judge-value-spec : {M : Type 1} → statement M
 judge-value-spec =
     tie.close
     (tie.spec
-    read-signed-requires
-    enum-known-z
-    enum-told
+    (λ c κs. search needs)
+    (λ c. search needs)
+    (λ c. search needs)
     returns
     returns-2
-    read-count-requires
-    enum-known-n
-    enum-told-2
+    (λ c κs. search needs)
+    (λ c. search needs)
+    (λ c. search needs)
     returns-3
     returns-4)

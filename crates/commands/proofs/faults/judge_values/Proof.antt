@@ -17,27 +17,6 @@ Inv-loop words is-signed at₀ at = (at ≤ length words + 1) × (valuesJudged i
 abbrev μ-loop : tie.MeasureT-loop
 μ-loop words is-signed at₀ at = length words + 1 - at
 
-loop-holds : tie.Need-loop-holds Inv-loop μ-loop
-loop-holds c = search needs
-
-rest-requires : tie.Need-rest-requires Inv-loop μ-loop
-rest-requires c κs = search needs
-
-first-at-requires : tie.Need-first-at-requires Inv-loop μ-loop
-first-at-requires c κs = search needs
-
-front-requires : tie.Need-front-requires Inv-loop μ-loop
-front-requires c κs = search needs
-
-judge-value-requires : tie.Need-judge-value-requires Inv-loop μ-loop
-judge-value-requires c κs = search needs
-
-enum-told : tie.Need-enum-told Inv-loop μ-loop
-enum-told c = search needs
-
-enum-told-2 : tie.Need-enum-told-2 Inv-loop μ-loop
-enum-told-2 c = search needs
-
 -- the values are judged by the word that is read now, and then by those after it
 turn : (c : tie.After-judge-value Inv-loop μ-loop)
     → valuesJudged (c .before .before .before .before .before .before .before .args .is-signed) (wordsOf (c .before .before .before .before .before .before .before .args .words .now))
@@ -79,13 +58,13 @@ judge-values-spec =
     (tie.spec
     Inv-loop
     μ-loop
-    loop-holds
-    rest-requires
-    first-at-requires
-    front-requires
-    judge-value-requires
-    enum-told
-    enum-told-2
+    (λ c. search needs)
+    (λ c κs. search needs)
+    (λ c κs. search needs)
+    (λ c κs. search needs)
+    (λ c κs. search needs)
+    (λ c. search needs)
+    (λ c. search needs)
     returns
     add-at
     add-at-2

@@ -6,15 +6,6 @@ use borrow.Author.Needs.{needs}
 use Rattle.commands.proofs.numbers.read_count.Statement.{statement}
 use Rattle.commands.proofs.numbers.read_count.Tie as tie
 
-read-natural-requires : tie.Need-read-natural-requires
-read-natural-requires c κs = search needs
-
-enum-known-n : tie.Need-enum-known-n
-enum-known-n c = search needs
-
-enum-told : tie.Need-enum-told
-enum-told c = search needs
-
 returns : tie.Need-returns
 unfolding countOf
 returns c = ap countOf (sym (c .enum-told .given .1)) ∙ count-held _ _ (c .before .before .read-natural .ensures)
@@ -22,13 +13,10 @@ returns c = ap countOf (sym (c .enum-told .given .1)) ∙ count-held _ _ (c .bef
 returns-2 : tie.Need-returns-2
 returns-2 c = count-high _ (c .if1 .taken) ∙ ap countOf (sym (c .before .before .n .given .1)) ∙ count-held _ _ (c .before .before .before .before .read-natural .ensures)
 
-cast-t7 : tie.Need-cast-t7
-cast-t7 c = search needs
-
 returns-3 : tie.Need-returns-3
 returns-3 c = count-in _ (c .if1 .left) ∙ ap countOf (sym (c .before .before .n .given .1)) ∙ count-held _ _ (c .before .before .before .before .read-natural .ensures)
 
 pub read-count-spec : {M : Type 1} → statement M
 read-count-spec =
     tie.close
-    (tie.spec read-natural-requires enum-known-n enum-told returns returns-2 cast-t7 returns-3)
+    (tie.spec (λ c κs. search needs) (λ c. search needs) (λ c. search needs) returns returns-2 (λ c. search needs) returns-3)

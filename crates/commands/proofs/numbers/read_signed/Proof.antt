@@ -15,15 +15,6 @@ use borrow.Author.Needs.{needs}
 use Rattle.commands.proofs.numbers.read_signed.Statement.{statement}
 use Rattle.commands.proofs.numbers.read_signed.Tie as tie
 
-read-integer-requires : tie.Need-read-integer-requires
-read-integer-requires c κs = search needs
-
-enum-known-n : tie.Need-enum-known-n
-enum-known-n c = search needs
-
-enum-told : tie.Need-enum-told
-enum-told c = search needs
-
 returns : tie.Need-returns
 unfolding signedOf
 returns c = ap signedOf (sym (c .enum-told .given .1)) ∙ signed-held _ _ (c .before .before .read-integer .ensures)
@@ -50,9 +41,9 @@ pub read-signed-spec : {M : Type 1} → statement M
 read-signed-spec =
     tie.close
     (tie.spec
-    read-integer-requires
-    enum-known-n
-    enum-told
+    (λ c κs. search needs)
+    (λ c. search needs)
+    (λ c. search needs)
     returns
     returns-2
     returns-3

@@ -9,20 +9,8 @@ use borrow.Author.Needs.{needs}
 use Rattle.commands.proofs.words.after_word.Statement.{statement}
 use Rattle.commands.proofs.words.after_word.Tie as tie
 
-first-at-requires : tie.Need-first-at-requires
-first-at-requires c κs = search needs
-
-add-rest : tie.Need-add-rest
-add-rest c = search needs
-
-rest-requires : tie.Need-rest-requires
-rest-requires c κs = search needs
-
 returns : tie.Need-returns
 returns c = rw (c .before .before .first-at .ensures .0) at (c .rest .ensures)
-
-rest-requires-2 : tie.Need-rest-requires-2
-rest-requires-2 c κs = search needs
 
 returns-2 : tie.Need-returns-2
 returns-2 c =
@@ -33,4 +21,4 @@ returns-2 c =
 
 pub after-word-spec : {M : Type 1} → statement M
 after-word-spec =
-    tie.close (tie.spec first-at-requires add-rest rest-requires returns rest-requires-2 returns-2)
+    tie.close (tie.spec (λ c κs. search needs) (λ c. search needs) (λ c κs. search needs) returns (λ c κs. search needs) returns-2)

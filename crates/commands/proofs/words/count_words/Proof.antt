@@ -16,18 +16,6 @@ Inv-loop s n₀ at₀ n at = (at ≤ length s + 1) × (n ≤ at) × (length (wor
 abbrev μ-loop : tie.MeasureT-loop
 μ-loop s n₀ at₀ n at = length s + 1 - at
 
-loop-holds : tie.Need-loop-holds Inv-loop μ-loop
-loop-holds c = search needs
-
-rest-requires : tie.Need-rest-requires Inv-loop μ-loop
-rest-requires c κs = search needs
-
-first-at-requires : tie.Need-first-at-requires Inv-loop μ-loop
-first-at-requires c κs = search needs
-
-add-n : tie.Need-add-n Inv-loop μ-loop
-add-n c = search needs
-
 add-at : tie.Need-add-at Inv-loop μ-loop
 add-at c = let l = rest-long (c .before .before .before .before .before .args .s .now) _ (c .before .before .before .loop .at) (c .before .rest .ensures) in omega arith
 
@@ -56,10 +44,10 @@ count-words-spec =
     (tie.spec
     Inv-loop
     μ-loop
-    loop-holds
-    rest-requires
-    first-at-requires
-    add-n
+    (λ c. search needs)
+    (λ c κs. search needs)
+    (λ c κs. search needs)
+    (λ c. search needs)
     add-at
     add-at-2
     loop-less

@@ -4,14 +4,8 @@ use borrow.Author.Needs.{needs}
 use Rattle.commands.proofs.words.first_word.Statement.{statement}
 use Rattle.commands.proofs.words.first_word.Tie as tie
 
-first-at-requires : tie.Need-first-at-requires
-first-at-requires c κs = search needs
-
-front-requires : tie.Need-front-requires
-front-requires c κs = search needs
-
 returns : tie.Need-returns
 returns c = rw (c .before .first-at .ensures .0) at (c .front .ensures)
 
 pub first-word-spec : {M : Type 1} → statement M
-first-word-spec = tie.close (tie.spec first-at-requires front-requires returns)
+first-word-spec = tie.close (tie.spec (λ c κs. search needs) (λ c κs. search needs) returns)

@@ -8,13 +8,10 @@ use borrow.Author.Needs.{needs}
 use Rattle.commands.proofs.words.holds_byte.Statement.{statement}
 use Rattle.commands.proofs.words.holds_byte.Tie as tie
 
-first-at-requires : tie.Need-first-at-requires
-first-at-requires c κs = search needs
-
 returns : tie.Need-returns
 returns c =
     let s = c .before .before .args .s .now in
     ap (λ (e : ℕ). ltb e (length s)) (c .first-at .ensures .0) ∙ holds-first _ s
 
 pub holds-byte-spec : {M : Type 1} → statement M
-holds-byte-spec = tie.close (tie.spec first-at-requires returns)
+holds-byte-spec = tie.close (tie.spec (λ c κs. search needs) returns)

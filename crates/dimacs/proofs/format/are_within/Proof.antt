@@ -3,15 +3,9 @@ use borrow.Author.Needs.{needs}
 use Rattle.dimacs.proofs.format.are_within.Statement.{statement}
 use Rattle.dimacs.proofs.format.are_within.Tie as tie
 
-none-above-requires : tie.Need-none-above-requires
-none-above-requires c κs = search needs
-
-none-above-requires-2 : tie.Need-none-above-requires-2
-none-above-requires-2 c κs = search needs
-
 returns : tie.Need-returns
 unfolding within
 returns c = rw (c .before .none-above .ensures, c .none-above2 .ensures)
 
 pub are-within-spec : {M : Type 1} → statement M
-are-within-spec = tie.close (tie.spec none-above-requires none-above-requires-2 returns)
+are-within-spec = tie.close (tie.spec (λ c κs. search needs) (λ c κs. search needs) returns)

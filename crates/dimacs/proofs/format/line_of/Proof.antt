@@ -9,30 +9,6 @@ use borrow.Author.Needs.{needs}
 use Rattle.dimacs.proofs.format.line_of.Statement.{statement}
 use Rattle.dimacs.proofs.format.line_of.Tie as tie
 
-enum-told : tie.Need-enum-told
-enum-told c = search needs
-
-slice-aggregate-read-line : tie.Need-slice-aggregate-read-line
-slice-aggregate-read-line c = search needs
-
-slice-aggregate-read-line-2 : tie.Need-slice-aggregate-read-line-2
-slice-aggregate-read-line-2 c = search needs
-
-read-line-requires : tie.Need-read-line-requires
-read-line-requires c κs = search needs
-
-enum-told-2 : tie.Need-enum-told-2
-enum-told-2 c = search needs
-
-slice-aggregate-read-line-3 : tie.Need-slice-aggregate-read-line-3
-slice-aggregate-read-line-3 c = search needs
-
-slice-aggregate-read-line-4 : tie.Need-slice-aggregate-read-line-4
-slice-aggregate-read-line-4 c = search needs
-
-read-line-requires-2 : tie.Need-read-line-requires-2
-read-line-requires-2 c κs = search needs
-
 returns : tie.Need-returns
 unfolding grLine bytes
 returns c =
@@ -47,13 +23,13 @@ pub line-of-spec : {M : Type 1} → statement M
 line-of-spec =
     tie.close
     (tie.spec
-    enum-told
-    slice-aggregate-read-line
-    slice-aggregate-read-line-2
-    read-line-requires
-    enum-told-2
-    slice-aggregate-read-line-3
-    slice-aggregate-read-line-4
-    read-line-requires-2
+    (λ c. search needs)
+    (λ c. search needs)
+    (λ c. search needs)
+    (λ c κs. search needs)
+    (λ c. search needs)
+    (λ c. search needs)
+    (λ c. search needs)
+    (λ c κs. search needs)
     returns
     returns-2)

@@ -3,15 +3,9 @@ use borrow.Author.Needs.{needs}
 use Rattle.dimacs.proofs.format.rules_co.Statement.{statement}
 use Rattle.dimacs.proofs.format.rules_co.Tie as tie
 
-naturals-of-requires : tie.Need-naturals-of-requires
-naturals-of-requires c κs = search needs
-
-naturals-of-requires-2 : tie.Need-naturals-of-requires-2
-naturals-of-requires-2 c κs = search needs
-
 returns : tie.Need-returns
 unfolding coRules
 returns c = rw (c .before .naturals-of .ensures, c .naturals-of2 .ensures)
 
 pub rules-co-spec : {M : Type 1} → statement M
-rules-co-spec = tie.close (tie.spec naturals-of-requires naturals-of-requires-2 returns)
+rules-co-spec = tie.close (tie.spec (λ c κs. search needs) (λ c κs. search needs) returns)

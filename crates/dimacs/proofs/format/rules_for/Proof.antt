@@ -5,18 +5,6 @@ use borrow.Author.Needs.{needs}
 use Rattle.dimacs.proofs.format.rules_for.Statement.{statement}
 use Rattle.dimacs.proofs.format.rules_for.Tie as tie
 
-enum-told : tie.Need-enum-told
-enum-told c = search needs
-
-rules-gr-requires : tie.Need-rules-gr-requires
-rules-gr-requires c κs = search needs
-
-enum-known-format : tie.Need-enum-known-format
-enum-known-format c = search needs
-
-rules-co-requires : tie.Need-rules-co-requires
-rules-co-requires c κs = search needs
-
 returns : tie.Need-returns
 returns c =
     c .rules-gr .ensures ∙ ap (λ (f : Format). rulesOf f (c .before .before .before .args .problem)) (sym (c .before .enum-told .given .1))
@@ -28,4 +16,4 @@ returns-2 c =
 pub rules-for-spec : {M : Type 1} → statement M
 rules-for-spec =
     tie.close
-    (tie.spec enum-told rules-gr-requires enum-known-format rules-co-requires returns returns-2)
+    (tie.spec (λ c. search needs) (λ c κs. search needs) (λ c. search needs) (λ c κs. search needs) returns returns-2)

@@ -4,24 +4,6 @@ use borrow.Author.Needs.{needs}
 use Rattle.dimacs.proofs.judge.judge.Statement.{statement}
 use Rattle.dimacs.proofs.judge.judge.Tie as tie
 
-enum-told : tie.Need-enum-told
-enum-told c = search needs
-
-enum-known-l : tie.Need-enum-known-l
-enum-known-l c = search needs
-
-judge-problem-requires : tie.Need-judge-problem-requires
-judge-problem-requires c κs = search needs
-
-enum-known-l-2 : tie.Need-enum-known-l-2
-enum-known-l-2 c = search needs
-
-judge-data-requires : tie.Need-judge-data-requires
-judge-data-requires c κs = search needs
-
-enum-told-2 : tie.Need-enum-told-2
-enum-told-2 c = search needs
-
 returns : tie.Need-returns
 unfolding judged
 returns c =
@@ -46,12 +28,12 @@ pub judge-spec : {M : Type 1} → statement M
 judge-spec =
     tie.close
     (tie.spec
-    enum-told
-    enum-known-l
-    judge-problem-requires
-    enum-known-l-2
-    judge-data-requires
-    enum-told-2
+    (λ c. search needs)
+    (λ c. search needs)
+    (λ c κs. search needs)
+    (λ c. search needs)
+    (λ c κs. search needs)
+    (λ c. search needs)
     returns
     returns-2
     returns-3

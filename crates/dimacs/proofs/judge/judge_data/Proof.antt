@@ -10,9 +10,6 @@ returns : tie.Need-returns
 unfolding dataJudged
 returns c = rw (not-true (c .before .before .args .head .seen) (c .if1 .taken))
 
-are-within-requires : tie.Need-are-within-requires
-are-within-requires c κs = search needs
-
 returns-2 : tie.Need-returns-2
 unfolding dataJudged
 returns-2 c =
@@ -42,7 +39,7 @@ judge-data-spec =
     tie.close
     (tie.spec
     returns
-    are-within-requires
+    (λ c κs. search needs)
     returns-2
     is-again-requires
     returns-3

@@ -9,9 +9,6 @@ returns : tie.Need-returns
 unfolding problemJudged
 returns c = rw (c .if1 .taken)
 
-are-within-requires : tie.Need-are-within-requires
-are-within-requires c κs = search needs
-
 returns-2 : tie.Need-returns-2
 unfolding problemJudged
 returns-2 c = rw (c .before .before .if1 .left, sym (c .before .are-within .ensures) ∙ not-true _ (c .if2 .taken))
@@ -27,4 +24,4 @@ returns-4 c =
     rw (c .before .before .before .before .before .before .before .if1 .left, sym (c .before .before .before .before .before .before .are-within .ensures) ∙ not-false _ (c .before .before .before .before .before .if2 .left), c .if3 .left)
 
 pub judge-problem-spec : {M : Type 1} → statement M
-judge-problem-spec = tie.close (tie.spec returns are-within-requires returns-2 returns-3 returns-4)
+judge-problem-spec = tie.close (tie.spec returns (λ c κs. search needs) returns-2 returns-3 returns-4)

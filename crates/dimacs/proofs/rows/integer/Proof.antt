@@ -7,12 +7,6 @@ use borrow.Author.Needs.{needs}
 use Rattle.dimacs.proofs.rows.integer.Statement.{statement}
 use Rattle.dimacs.proofs.rows.integer.Tie as tie
 
-enum-told : tie.Need-enum-told
-enum-told c = search needs
-
-enum-told-2 : tie.Need-enum-told-2
-enum-told-2 c = search needs
-
 returns : tie.Need-returns
 returns c =
     let ns = c .before .before .before .args .ns in
@@ -26,4 +20,4 @@ returns-2 c =
     same ∙ ap (λ (a : Axis). axisOf a ns) (sym (c .before .enum-told2 .given .1))
 
 pub integer-spec : {M : Type 1} → statement M
-integer-spec = tie.close (tie.spec enum-told enum-told-2 returns returns-2)
+integer-spec = tie.close (tie.spec (λ c. search needs) (λ c. search needs) returns returns-2)

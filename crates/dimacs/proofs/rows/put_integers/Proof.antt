@@ -15,30 +15,6 @@ Inv-loop axis n row₀ lines i₀ row i = Filled (axisOf axis) lines n row₀ ro
 abbrev μ-loop : tie.MeasureT-loop
 μ-loop axis n row₀ lines i₀ row i = n - i
 
-loop-holds : tie.Need-loop-holds Inv-loop μ-loop
-loop-holds c = search needs
-
-mul-ns : tie.Need-mul-ns Inv-loop μ-loop
-mul-ns c = search needs
-
-array-copy-out-ns : tie.Need-array-copy-out-ns Inv-loop μ-loop
-array-copy-out-ns c = search needs
-
-integer-requires : tie.Need-integer-requires Inv-loop μ-loop
-integer-requires c κs = search needs
-
-mul-z : tie.Need-mul-z Inv-loop μ-loop
-mul-z c = search needs
-
-slice-set-from-z : tie.Need-slice-set-from-z Inv-loop μ-loop
-slice-set-from-z c = search needs
-
-add-i : tie.Need-add-i Inv-loop μ-loop
-add-i c = search needs
-
-loop-less : tie.Need-loop-less Inv-loop μ-loop
-loop-less c = search needs
-
 loop-again : tie.Need-loop-again Inv-loop μ-loop
 loop-again c =
     let args = c .before .before .before .before .args in
@@ -57,14 +33,14 @@ put-integers-spec =
     (tie.spec
     Inv-loop
     μ-loop
-    loop-holds
-    mul-ns
-    array-copy-out-ns
-    integer-requires
-    mul-z
-    slice-set-from-z
-    add-i
-    loop-less
+    (λ c. search needs)
+    (λ c. search needs)
+    (λ c. search needs)
+    (λ c κs. search needs)
+    (λ c. search needs)
+    (λ c. search needs)
+    (λ c. search needs)
+    (λ c. search needs)
     loop-again
     same-length
     returns)

@@ -14,30 +14,6 @@ Inv-loop column m row₀ lines i₀ row i = Filled (columnOf column) lines m row
 abbrev μ-loop : tie.MeasureT-loop
 μ-loop column m row₀ lines i₀ row i = m - i
 
-loop-holds : tie.Need-loop-holds Inv-loop μ-loop
-loop-holds c = search needs
-
-mul-ns : tie.Need-mul-ns Inv-loop μ-loop
-mul-ns c = search needs
-
-array-copy-out-ns : tie.Need-array-copy-out-ns Inv-loop μ-loop
-array-copy-out-ns c = search needs
-
-natural-requires : tie.Need-natural-requires Inv-loop μ-loop
-natural-requires c κs = search needs
-
-mul-row : tie.Need-mul-row Inv-loop μ-loop
-mul-row c = search needs
-
-slice-write-row : tie.Need-slice-write-row Inv-loop μ-loop
-slice-write-row c = search needs
-
-add-i : tie.Need-add-i Inv-loop μ-loop
-add-i c = search needs
-
-loop-less : tie.Need-loop-less Inv-loop μ-loop
-loop-less c = search needs
-
 loop-again : tie.Need-loop-again Inv-loop μ-loop
 loop-again c =
     let args = c .before .before .before .before .before .args in
@@ -56,14 +32,14 @@ put-naturals-spec =
     (tie.spec
     Inv-loop
     μ-loop
-    loop-holds
-    mul-ns
-    array-copy-out-ns
-    natural-requires
-    mul-row
-    slice-write-row
-    add-i
-    loop-less
+    (λ c. search needs)
+    (λ c. search needs)
+    (λ c. search needs)
+    (λ c κs. search needs)
+    (λ c. search needs)
+    (λ c. search needs)
+    (λ c. search needs)
+    (λ c. search needs)
     loop-again
     same-length
     returns)

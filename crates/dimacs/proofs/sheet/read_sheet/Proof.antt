@@ -35,39 +35,12 @@ turn c =
       judgement = c .judge .ensures;
     }
 
-no-numbers-requires : tie.Need-no-numbers-requires Inv-loop μ-loop
-no-numbers-requires c κs = search needs
-
-no-numbers-requires-2 : tie.Need-no-numbers-requires-2 Inv-loop μ-loop
-no-numbers-requires-2 c κs = search needs
-
 loop-holds : tie.Need-loop-holds Inv-loop μ-loop
 loop-holds c = going-start _ _ _ _ (c .before .no-numbers .ensures) (c .no-numbers2 .ensures)
-
-rest-requires : tie.Need-rest-requires Inv-loop μ-loop
-rest-requires c κs = search needs
-
-first-at-requires : tie.Need-first-at-requires Inv-loop μ-loop
-first-at-requires c κs = search needs
-
-front-requires : tie.Need-front-requires Inv-loop μ-loop
-front-requires c κs = search needs
-
-line-of-requires : tie.Need-line-of-requires Inv-loop μ-loop
-line-of-requires c κs = search needs
-
-rules-for-requires : tie.Need-rules-for-requires Inv-loop μ-loop
-rules-for-requires c κs = search needs
 
 judge-requires : tie.Need-judge-requires Inv-loop μ-loop
 judge-requires c κs =
     rw (c .before .rules-for .ensures) (fair-of (c .before .before .before .before .before .before .before .before .before .before .before .before .args .format) (c .before .before .before .before .before .before .before .before .before .before .before .before .pre .1) _ (c .before .before .before .before .before .before .before .before .loop .inv .nodes))
-
-enum-told : tie.Need-enum-told Inv-loop μ-loop
-enum-told c = search needs
-
-enum-told-2 : tie.Need-enum-told-2 Inv-loop μ-loop
-enum-told-2 c = search needs
 
 returns : tie.Need-returns Inv-loop μ-loop
 returns c =
@@ -87,12 +60,6 @@ add-below : tie.Need-add-below Inv-loop μ-loop
 add-below c =
     let g = turn (c .before .before) in
     omega (arith, g .going .lined, c .before .before .before .before .before .before .before .before .before .before .before .before .before .before .before .pre .0, g .more)
-
-enum-known-l : tie.Need-enum-known-l Inv-loop μ-loop
-enum-known-l c = search needs
-
-enum-known-l-2 : tie.Need-enum-known-l-2 Inv-loop μ-loop
-enum-known-l-2 c = search needs
 
 place-of-requires : tie.Need-place-of-requires Inv-loop μ-loop
 place-of-requires c κs =
@@ -114,44 +81,23 @@ add-t33 : tie.Need-add-t33 Inv-loop μ-loop
 add-t33 c =
     let room = data-room _ _ _ _ _ _ _ _ _ _ _ (turn (c .before .before .before .before .before .before)) (c .before .before .before .before .enum-told .given .1) _ (c .before .before .l2 .given .1) in omega arith
 
-enum-told-3 : tie.Need-enum-told-3 Inv-loop μ-loop
-enum-told-3 c = search needs
-
-enum-told-4 : tie.Need-enum-told-4 Inv-loop μ-loop
-enum-told-4 c = search needs
-
-loop-less : tie.Need-loop-less Inv-loop μ-loop
-loop-less c = search needs
-
 loop-again : tie.Need-loop-again Inv-loop μ-loop
 loop-again c =
     line-problem _ _ _ _ _ _ _ _ _ _ _ (turn (c .before .before .before .before .before)) (c .before .before .before .enum-told .given .1) _ (c .before .l .given .1)
 
-loop-less-2 : tie.Need-loop-less-2 Inv-loop μ-loop
-loop-less-2 c = search needs
-
 loop-again-2 : tie.Need-loop-again-2 Inv-loop μ-loop
 loop-again-2 c =
     line-data _ _ _ _ _ _ _ _ _ _ _ (turn (c .before .before .before .before .before .before)) (c .before .before .before .before .enum-told .given .1) _ _ (c .before .before .l2 .given .1) (c .place-of .ensures)
-
-loop-less-3 : tie.Need-loop-less-3 Inv-loop μ-loop
-loop-less-3 c = search needs
 
 loop-again-3 : tie.Need-loop-again-3 Inv-loop μ-loop
 unfolding next
 loop-again-3 c =
     line-kept _ _ _ _ _ _ _ _ _ _ _ (turn (c .before .before .before .before)) (c .before .before .enum-told .given .1) (ap (next _ _) (c .enum-told3 .given .1))
 
-loop-less-4 : tie.Need-loop-less-4 Inv-loop μ-loop
-loop-less-4 c = search needs
-
 loop-again-4 : tie.Need-loop-again-4 Inv-loop μ-loop
 unfolding next
 loop-again-4 c =
     line-kept _ _ _ _ _ _ _ _ _ _ _ (turn (c .before .before .before .before)) (c .before .before .enum-told .given .1) (ap (next _ _) (c .enum-told4 .given .1))
-
-judge-end-requires : tie.Need-judge-end-requires Inv-loop μ-loop
-judge-end-requires c κs = search needs
 
 returns-2 : tie.Need-returns-2 Inv-loop μ-loop
 returns-2 c =
@@ -163,37 +109,37 @@ read-sheet-spec =
     (tie.spec
     Inv-loop
     μ-loop
-    no-numbers-requires
-    no-numbers-requires-2
+    (λ c κs. search needs)
+    (λ c κs. search needs)
     loop-holds
-    rest-requires
-    first-at-requires
-    front-requires
-    line-of-requires
-    rules-for-requires
+    (λ c κs. search needs)
+    (λ c κs. search needs)
+    (λ c κs. search needs)
+    (λ c κs. search needs)
+    (λ c κs. search needs)
     judge-requires
-    enum-told
-    enum-told-2
+    (λ c. search needs)
+    (λ c. search needs)
     returns
     add-next
     add-next-2
     add-below
-    enum-known-l
-    enum-known-l-2
+    (λ c. search needs)
+    (λ c. search needs)
     place-of-requires
     array-write-taken
     mul-lines
     array-set-from-lines
     add-t33
-    enum-told-3
-    enum-told-4
-    loop-less
+    (λ c. search needs)
+    (λ c. search needs)
+    (λ c. search needs)
     loop-again
-    loop-less-2
+    (λ c. search needs)
     loop-again-2
-    loop-less-3
+    (λ c. search needs)
     loop-again-3
-    loop-less-4
+    (λ c. search needs)
     loop-again-4
-    judge-end-requires
+    (λ c κs. search needs)
     returns-2)

@@ -4,12 +4,9 @@ use Rattle.settling.specs.LengthsTo.{onShortest}
 use Rattle.drawing.proofs.grow.on_shortest.Statement.{statement}
 use Rattle.drawing.proofs.grow.on_shortest.Tie as tie
 
-add-result : tie.Need-add-result
-add-result c = search needs
-
 returns : tie.Need-returns
 unfolding onShortest
 returns c = search needs
 
 pub on-shortest-spec : {M : Type 1} → statement M
-on-shortest-spec = tie.close (tie.spec add-result returns)
+on-shortest-spec = tie.close (tie.spec (λ c. search needs) returns)

@@ -12,18 +12,6 @@ use Rattle.files.proofs.DecimalLaws.{whole-minus, whole-plus}
 use Rattle.files.proofs.page.put_number.Statement.{statement}
 use Rattle.files.proofs.page.put_number.Tie as tie
 
-slice-aggregate-put : tie.Need-slice-aggregate-put
-slice-aggregate-put c = search needs
-
-put-requires : tie.Need-put-requires
-put-requires c κs = search needs
-
-size-requires : tie.Need-size-requires
-size-requires c κs = search needs
-
-put-decimal-requires : tie.Need-put-decimal-requires
-put-decimal-requires c κs = search needs
-
 returns : tie.Need-returns
 returns c =
     let b = c .before .before .before .before .before .before in
@@ -32,12 +20,6 @@ returns c =
     let sign = rw plain at (b .if1 .taken) in
     let sized = ap (λ (m : ℕ). 45 ∷ decimal m) (rw plain at (c .before .size .ensures)) in
     (puts-same (sized ∙ whole-minus z sign) (puts-both (c .before .before .before .put .ensures) (c .put-decimal .ensures .0)), omega arith)
-
-size-requires-2 : tie.Need-size-requires-2
-size-requires-2 c κs = search needs
-
-put-decimal-requires-2 : tie.Need-put-decimal-requires-2
-put-decimal-requires-2 c κs = search needs
 
 returns-2 : tie.Need-returns-2
 returns-2 c =
@@ -52,11 +34,11 @@ pub put-number-spec : {M : Type 1} → statement M
 put-number-spec =
     tie.close
     (tie.spec
-    slice-aggregate-put
-    put-requires
-    size-requires
-    put-decimal-requires
+    (λ c. search needs)
+    (λ c κs. search needs)
+    (λ c κs. search needs)
+    (λ c κs. search needs)
     returns
-    size-requires-2
-    put-decimal-requires-2
+    (λ c κs. search needs)
+    (λ c κs. search needs)
     returns-2)

@@ -13,53 +13,11 @@ Inv-loop fd text₀ at₀ text at = (at ≤ length text) × (length text ≡ len
 abbrev μ-loop : tie.MeasureT-loop
 μ-loop fd text₀ at₀ text at = length text₀ - at
 
-loop-holds : tie.Need-loop-holds Inv-loop μ-loop
-loop-holds c = search needs
-
-sub-read-some : tie.Need-sub-read-some Inv-loop μ-loop
-sub-read-some c = search needs
-
-part-read-some-start : tie.Need-part-read-some-start Inv-loop μ-loop
-part-read-some-start c = search needs
-
-part-read-some-end : tie.Need-part-read-some-end Inv-loop μ-loop
-part-read-some-end c = search needs
-
-read-some-requires : tie.Need-read-some-requires Inv-loop μ-loop
-read-some-requires c κs = search needs
-
-enum-known-some : tie.Need-enum-known-some Inv-loop μ-loop
-enum-known-some c = search needs
-
-enum-told : tie.Need-enum-told Inv-loop μ-loop
-enum-told c = search needs
-
-same-length : tie.Need-same-length Inv-loop μ-loop
-same-length c = search needs
-
-returns : tie.Need-returns Inv-loop μ-loop
-returns c = search needs
-
-same-length-2 : tie.Need-same-length-2 Inv-loop μ-loop
-same-length-2 c = search needs
-
-returns-2 : tie.Need-returns-2 Inv-loop μ-loop
-returns-2 c = search needs
-
 add-at : tie.Need-add-at Inv-loop μ-loop
 add-at c = let e = rw (c .before .before .some .given .1) at (c .before .before .before .before .before .before .read-some .ensures) in omega arith
 
-loop-less : tie.Need-loop-less Inv-loop μ-loop
-loop-less c = search needs
-
 loop-again : tie.Need-loop-again Inv-loop μ-loop
 loop-again c = let e = rw (c .before .before .some .given .1) at (c .before .before .before .before .before .before .read-some .ensures) in (omega arith, omega arith)
-
-same-length-3 : tie.Need-same-length-3 Inv-loop μ-loop
-same-length-3 c = search needs
-
-returns-3 : tie.Need-returns-3 Inv-loop μ-loop
-returns-3 c = search needs
 
 pub read-on-spec : {M : Type 1} → statement M
 read-on-spec =
@@ -67,19 +25,19 @@ read-on-spec =
     (tie.spec
     Inv-loop
     μ-loop
-    loop-holds
-    sub-read-some
-    part-read-some-start
-    part-read-some-end
-    read-some-requires
-    enum-known-some
-    enum-told
-    same-length
-    returns
-    same-length-2
-    returns-2
+    (λ c. search needs)
+    (λ c. search needs)
+    (λ c. search needs)
+    (λ c. search needs)
+    (λ c κs. search needs)
+    (λ c. search needs)
+    (λ c. search needs)
+    (λ c. search needs)
+    (λ c. search needs)
+    (λ c. search needs)
+    (λ c. search needs)
     add-at
-    loop-less
+    (λ c. search needs)
     loop-again
-    same-length-3
-    returns-3)
+    (λ c. search needs)
+    (λ c. search needs))

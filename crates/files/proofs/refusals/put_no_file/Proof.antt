@@ -6,15 +6,9 @@ use Rattle.files.specs.Refusals.{noFileLine}
 use Rattle.files.proofs.refusals.put_no_file.Statement.{statement}
 use Rattle.files.proofs.refusals.put_no_file.Tie as tie
 
-slice-aggregate-put : tie.Need-slice-aggregate-put
-slice-aggregate-put c = search needs
-
-put-requires : tie.Need-put-requires
-put-requires c κs = search needs
-
 returns : tie.Need-returns
 unfolding noFileLine bytes
 returns c = (c .put .ensures, omega arith)
 
 pub put-no-file-spec : {M : Type 1} → statement M
-put-no-file-spec = tie.close (tie.spec slice-aggregate-put put-requires returns)
+put-no-file-spec = tie.close (tie.spec (λ c. search needs) (λ c κs. search needs) returns)

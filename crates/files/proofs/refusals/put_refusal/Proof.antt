@@ -7,33 +7,6 @@ use Rattle.files.proofs.PageLaws.{puts-both}
 use Rattle.files.proofs.refusals.put_refusal.Statement.{statement}
 use Rattle.files.proofs.refusals.put_refusal.Tie as tie
 
-slice-aggregate-put-after : tie.Need-slice-aggregate-put-after
-slice-aggregate-put-after c = search needs
-
-number-requires : tie.Need-number-requires
-number-requires c κs = search needs
-
-put-after-requires : tie.Need-put-after-requires
-put-after-requires c κs = search needs
-
-put-values-requires : tie.Need-put-values-requires
-put-values-requires c κs = search needs
-
-slice-aggregate-put : tie.Need-slice-aggregate-put
-slice-aggregate-put c = search needs
-
-put-requires : tie.Need-put-requires
-put-requires c κs = search needs
-
-put-words-requires : tie.Need-put-words-requires
-put-words-requires c κs = search needs
-
-slice-aggregate-put-2 : tie.Need-slice-aggregate-put-2
-slice-aggregate-put-2 c = search needs
-
-put-requires-2 : tie.Need-put-requires-2
-put-requires-2 c κs = search needs
-
 returns : tie.Need-returns
 unfolding refusalLine bytes
 returns c =
@@ -49,13 +22,13 @@ pub put-refusal-spec : {M : Type 1} → statement M
 put-refusal-spec =
     tie.close
     (tie.spec
-    slice-aggregate-put-after
-    number-requires
-    put-after-requires
-    put-values-requires
-    slice-aggregate-put
-    put-requires
-    put-words-requires
-    slice-aggregate-put-2
-    put-requires-2
+    (λ c. search needs)
+    (λ c κs. search needs)
+    (λ c κs. search needs)
+    (λ c κs. search needs)
+    (λ c. search needs)
+    (λ c κs. search needs)
+    (λ c κs. search needs)
+    (λ c. search needs)
+    (λ c κs. search needs)
     returns)

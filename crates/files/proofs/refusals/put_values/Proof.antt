@@ -8,56 +8,23 @@ use Rattle.files.proofs.ValuesLaws.{one-value, two-values}
 use Rattle.files.proofs.refusals.put_values.Statement.{statement}
 use Rattle.files.proofs.refusals.put_values.Tie as tie
 
-enum-told : tie.Need-enum-told
-enum-told c = search needs
-
 returns : tie.Need-returns
 unfolding valuesText spaced
 returns c = (puts-case valuesText (c .enum-told .given .1) puts-none, omega arith)
-
-enum-told-2 : tie.Need-enum-told-2
-enum-told-2 c = search needs
 
 returns-2 : tie.Need-returns-2
 unfolding valuesText spaced
 returns-2 c = (puts-case valuesText (c .enum-told2 .given .1) puts-none, omega arith)
 
-enum-told-3 : tie.Need-enum-told-3
-enum-told-3 c = search needs
-
 returns-3 : tie.Need-returns-3
 unfolding valuesText spaced
 returns-3 c = (puts-case valuesText (c .enum-told3 .given .1) puts-none, omega arith)
-
-enum-known-why : tie.Need-enum-known-why
-enum-known-why c = search needs
-
-slice-aggregate-put-after : tie.Need-slice-aggregate-put-after
-slice-aggregate-put-after c = search needs
-
-put-after-requires : tie.Need-put-after-requires
-put-after-requires c κs = search needs
-
-slice-aggregate-put-after-2 : tie.Need-slice-aggregate-put-after-2
-slice-aggregate-put-after-2 c = search needs
-
-put-after-requires-2 : tie.Need-put-after-requires-2
-put-after-requires-2 c κs = search needs
 
 returns-4 : tie.Need-returns-4
 returns-4 c =
     let d = c .before .before .before in
     let told = d .before .before .before .before .why .given in
     (puts-case valuesText (told .1) (puts-same (two-values _ _) (puts-both (d .put-after .ensures .0) (c .put-after2 .ensures .0))), omega arith)
-
-slice-aggregate-put-after-3 : tie.Need-slice-aggregate-put-after-3
-slice-aggregate-put-after-3 c = search needs
-
-place-requires : tie.Need-place-requires
-place-requires c κs = search needs
-
-put-after-requires-3 : tie.Need-put-after-requires-3
-put-after-requires-3 c κs = search needs
 
 returns-5 : tie.Need-returns-5
 returns-5 c =
@@ -68,19 +35,19 @@ pub put-values-spec : {M : Type 1} → statement M
 put-values-spec =
     tie.close
     (tie.spec
-    enum-told
+    (λ c. search needs)
     returns
-    enum-told-2
+    (λ c. search needs)
     returns-2
-    enum-told-3
+    (λ c. search needs)
     returns-3
-    enum-known-why
-    slice-aggregate-put-after
-    put-after-requires
-    slice-aggregate-put-after-2
-    put-after-requires-2
+    (λ c. search needs)
+    (λ c. search needs)
+    (λ c κs. search needs)
+    (λ c. search needs)
+    (λ c κs. search needs)
     returns-4
-    slice-aggregate-put-after-3
-    place-requires
-    put-after-requires-3
+    (λ c. search needs)
+    (λ c κs. search needs)
+    (λ c κs. search needs)
     returns-5)

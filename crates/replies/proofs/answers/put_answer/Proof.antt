@@ -10,42 +10,6 @@ use Rattle.replies.specs.Replies.{answerLine}
 use Rattle.replies.proofs.answers.put_answer.Statement.{statement}
 use Rattle.replies.proofs.answers.put_answer.Tie as tie
 
-enum-known-answer : tie.Need-enum-known-answer
-enum-known-answer c = search needs
-
-slice-aggregate-put-after : tie.Need-slice-aggregate-put-after
-slice-aggregate-put-after c = search needs
-
-put-after-requires : tie.Need-put-after-requires
-put-after-requires c κs = search needs
-
-slice-aggregate-put-after-2 : tie.Need-slice-aggregate-put-after-2
-slice-aggregate-put-after-2 c = search needs
-
-put-after-requires-2 : tie.Need-put-after-requires-2
-put-after-requires-2 c κs = search needs
-
-slice-aggregate-put-after-3 : tie.Need-slice-aggregate-put-after-3
-slice-aggregate-put-after-3 c = search needs
-
-put-after-requires-3 : tie.Need-put-after-requires-3
-put-after-requires-3 c κs = search needs
-
-cast-first-places : tie.Need-cast-first-places
-cast-first-places c = search needs
-
-first-places-requires : tie.Need-first-places-requires
-first-places-requires c κs = search needs
-
-put-counts-requires : tie.Need-put-counts-requires
-put-counts-requires c κs = search needs
-
-slice-aggregate-put : tie.Need-slice-aggregate-put
-slice-aggregate-put c = search needs
-
-put-requires : tie.Need-put-requires
-put-requires c κs = search needs
-
 returns : tie.Need-returns
 unfolding answerLine bytes
 returns c =
@@ -58,12 +22,6 @@ returns c =
     let route = puts-same (ap countsText (d .before .first-places .ensures .0)) (d .put-counts .ensures .0) in
     (puts-case (λ (a : Answer). answerLine a (h .before .before .before .args .route .now)) (h .answer .given .1) (puts-both (puts-both numbers route) (c .put .ensures)), omega arith)
 
-enum-known-answer-2 : tie.Need-enum-known-answer-2
-enum-known-answer-2 c = search needs
-
-put-refusal-requires : tie.Need-put-refusal-requires
-put-refusal-requires c κs = search needs
-
 returns-2 : tie.Need-returns-2
 unfolding answerLine
 returns-2 c =
@@ -74,19 +32,19 @@ pub put-answer-spec : {M : Type 1} → statement M
 put-answer-spec =
     tie.close
     (tie.spec
-    enum-known-answer
-    slice-aggregate-put-after
-    put-after-requires
-    slice-aggregate-put-after-2
-    put-after-requires-2
-    slice-aggregate-put-after-3
-    put-after-requires-3
-    cast-first-places
-    first-places-requires
-    put-counts-requires
-    slice-aggregate-put
-    put-requires
+    (λ c. search needs)
+    (λ c. search needs)
+    (λ c κs. search needs)
+    (λ c. search needs)
+    (λ c κs. search needs)
+    (λ c. search needs)
+    (λ c κs. search needs)
+    (λ c. search needs)
+    (λ c κs. search needs)
+    (λ c κs. search needs)
+    (λ c. search needs)
+    (λ c κs. search needs)
     returns
-    enum-known-answer-2
-    put-refusal-requires
+    (λ c. search needs)
+    (λ c κs. search needs)
     returns-2)

@@ -21,24 +21,6 @@ loop-holds : tie.Need-loop-holds Inv-loop μ-loop
 unfolding spaced
 loop-holds c = (search needs, omega arith, puts-none)
 
-slice-aggregate-put-after : tie.Need-slice-aggregate-put-after Inv-loop μ-loop
-slice-aggregate-put-after c = search needs
-
-mul-put-after : tie.Need-mul-put-after Inv-loop μ-loop
-mul-put-after c = search needs
-
-shared-slice-read-put-after : tie.Need-shared-slice-read-put-after Inv-loop μ-loop
-shared-slice-read-put-after c = search needs
-
-put-after-requires : tie.Need-put-after-requires Inv-loop μ-loop
-put-after-requires c κs = search needs
-
-add-i : tie.Need-add-i Inv-loop μ-loop
-add-i c = search needs
-
-loop-less : tie.Need-loop-less Inv-loop μ-loop
-loop-less c = search needs
-
 loop-again : tie.Need-loop-again Inv-loop μ-loop
 loop-again c =
     let t = c .before .before .before .before in
@@ -54,11 +36,11 @@ put-counts-spec =
     Inv-loop
     μ-loop
     loop-holds
-    slice-aggregate-put-after
-    mul-put-after
-    shared-slice-read-put-after
-    put-after-requires
-    add-i
-    loop-less
+    (λ c. search needs)
+    (λ c. search needs)
+    (λ c. search needs)
+    (λ c κs. search needs)
+    (λ c. search needs)
+    (λ c. search needs)
     loop-again
     returns)

@@ -6,15 +6,9 @@ use Rattle.replies.specs.Replies.{okLine}
 use Rattle.replies.proofs.words.put_ok.Statement.{statement}
 use Rattle.replies.proofs.words.put_ok.Tie as tie
 
-slice-aggregate-put : tie.Need-slice-aggregate-put
-slice-aggregate-put c = search needs
-
-put-requires : tie.Need-put-requires
-put-requires c κs = search needs
-
 returns : tie.Need-returns
 unfolding okLine bytes
 returns c = (c .put .ensures, omega arith)
 
 pub put-ok-spec : {M : Type 1} → statement M
-put-ok-spec = tie.close (tie.spec slice-aggregate-put put-requires returns)
+put-ok-spec = tie.close (tie.spec (λ c. search needs) (λ c κs. search needs) returns)

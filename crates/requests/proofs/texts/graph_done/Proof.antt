@@ -8,23 +8,11 @@ use Rattle.requests.specs.Requests.{graphLine, graphSizes}
 use Rattle.requests.proofs.texts.graph_done.Statement.{statement}
 use Rattle.requests.proofs.texts.graph_done.Tie as tie
 
-enum-known-reply : tie.Need-enum-known-reply
-enum-known-reply c = search needs
-
-put-sizes-requires : tie.Need-put-sizes-requires
-put-sizes-requires c κs = search needs
-
 returns : tie.Need-returns
 unfolding graphLine graphSizes
 returns c =
     let known = c .before .before .before .reply .given .1 in
     (ap (λ (g : GrReply). graphSizes g (c .before .before .before .before .before .args .sizes)) (sym known), (puts-case graphLine known (c .put-sizes .ensures .0), omega arith))
-
-enum-known-reply-2 : tie.Need-enum-known-reply-2
-enum-known-reply-2 c = search needs
-
-put-refusal-requires : tie.Need-put-refusal-requires
-put-refusal-requires c κs = search needs
 
 returns-2 : tie.Need-returns-2
 unfolding graphLine graphSizes
@@ -36,9 +24,9 @@ pub graph-done-spec : {M : Type 1} → statement M
 graph-done-spec =
     tie.close
     (tie.spec
-    enum-known-reply
-    put-sizes-requires
+    (λ c. search needs)
+    (λ c κs. search needs)
     returns
-    enum-known-reply-2
-    put-refusal-requires
+    (λ c. search needs)
+    (λ c κs. search needs)
     returns-2)

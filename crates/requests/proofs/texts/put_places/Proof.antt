@@ -6,21 +6,9 @@ use Rattle.requests.specs.Requests.{placesLine}
 use Rattle.requests.proofs.texts.put_places.Statement.{statement}
 use Rattle.requests.proofs.texts.put_places.Tie as tie
 
-enum-told : tie.Need-enum-told
-enum-told c = search needs
-
-put-ok-requires : tie.Need-put-ok-requires
-put-ok-requires c κs = search needs
-
 returns : tie.Need-returns
 unfolding placesLine
 returns c = (puts-case placesLine (c .before .before .enum-told .given .1) (c .put-ok .ensures .0), omega arith)
-
-enum-known-reply : tie.Need-enum-known-reply
-enum-known-reply c = search needs
-
-put-refusal-requires : tie.Need-put-refusal-requires
-put-refusal-requires c κs = search needs
 
 returns-2 : tie.Need-returns-2
 unfolding placesLine
@@ -29,4 +17,4 @@ returns-2 c = (puts-case placesLine (c .before .before .before .reply .given .1)
 pub put-places-spec : {M : Type 1} → statement M
 put-places-spec =
     tie.close
-    (tie.spec enum-told put-ok-requires returns enum-known-reply put-refusal-requires returns-2)
+    (tie.spec (λ c. search needs) (λ c κs. search needs) returns (λ c. search needs) (λ c κs. search needs) returns-2)

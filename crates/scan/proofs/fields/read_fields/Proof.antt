@@ -35,41 +35,11 @@ step c =
 in-line : (c : tie.After-take-field Inv-loop μ-loop) → c .before .before .before .before .before .before .before .loop .j + c .before .before .before .first-at2 .result ≤ length (c .before .before .before .before .before .before .before .before .before .before .before .args .s .now)
 in-line c = omega (arith, rest-long _ _ (c .before .before .before .before .before .before .before .loop .j) (step c .line-rest))
 
-no-numbers-requires : tie.Need-no-numbers-requires Inv-loop μ-loop
-no-numbers-requires c κs = search needs
-
 loop-holds : tie.Need-loop-holds Inv-loop μ-loop
 loop-holds c = matching-start _ _ _ (c .no-numbers .ensures)
 
-rest-requires : tie.Need-rest-requires Inv-loop μ-loop
-rest-requires c κs = search needs
-
-rest-requires-2 : tie.Need-rest-requires-2 Inv-loop μ-loop
-rest-requires-2 c κs = search needs
-
-first-at-requires : tie.Need-first-at-requires Inv-loop μ-loop
-first-at-requires c κs = search needs
-
-first-at-requires-2 : tie.Need-first-at-requires-2 Inv-loop μ-loop
-first-at-requires-2 c κs = search needs
-
-front-requires : tie.Need-front-requires Inv-loop μ-loop
-front-requires c κs = search needs
-
-front-requires-2 : tie.Need-front-requires-2 Inv-loop μ-loop
-front-requires-2 c κs = search needs
-
 take-field-requires : tie.Need-take-field-requires Inv-loop μ-loop
 take-field-requires c κs = c .before .before .before .before .before .before .loop .inv .kept
-
-enum-known-f : tie.Need-enum-known-f Inv-loop μ-loop
-enum-known-f c = search needs
-
-enum-told : tie.Need-enum-told Inv-loop μ-loop
-enum-told c = search needs
-
-add-t15 : tie.Need-add-t15 Inv-loop μ-loop
-add-t15 c = search needs
 
 returns : tie.Need-returns Inv-loop μ-loop
 returns c = field-bad _ _ _ _ _ _ _ _ _ _ (step (c .before .before)) (c .enum-told .given .1)
@@ -102,12 +72,6 @@ returns-4 : tie.Need-returns-4 Inv-loop μ-loop
 returns-4 c =
     field-missing _ _ _ _ _ _ _ _ _ _ (step (c .before .before .before .before .before)) _ (c .before .before .before .f .given .1) (c .before .if1 .left) (c .if3 .taken)
 
-add-i : tie.Need-add-i Inv-loop μ-loop
-add-i c = search needs
-
-add-i-2 : tie.Need-add-i-2 Inv-loop μ-loop
-add-i-2 c = search needs
-
 add-j : tie.Need-add-j Inv-loop μ-loop
 add-j c =
     let good = c .before .before .before .before .before .before .before .before .before .before .before .before .before .before .before .before .good in omega (arith, in-line (c .before .before .before .before .before))
@@ -130,18 +94,18 @@ read-fields-spec =
     (tie.spec
     Inv-loop
     μ-loop
-    no-numbers-requires
+    (λ c κs. search needs)
     loop-holds
-    rest-requires
-    rest-requires-2
-    first-at-requires
-    first-at-requires-2
-    front-requires
-    front-requires-2
+    (λ c κs. search needs)
+    (λ c κs. search needs)
+    (λ c κs. search needs)
+    (λ c κs. search needs)
+    (λ c κs. search needs)
+    (λ c κs. search needs)
     take-field-requires
-    enum-known-f
-    enum-told
-    add-t15
+    (λ c. search needs)
+    (λ c. search needs)
+    (λ c. search needs)
     returns
     returns-2
     add-t19
@@ -150,8 +114,8 @@ read-fields-spec =
     add-t25
     add-t26
     returns-4
-    add-i
-    add-i-2
+    (λ c. search needs)
+    (λ c. search needs)
     add-j
     add-j-2
     loop-less

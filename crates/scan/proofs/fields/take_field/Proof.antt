@@ -11,29 +11,11 @@ use borrow.Author.Needs.{needs}
 use Rattle.scan.proofs.fields.take_field.Statement.{statement}
 use Rattle.scan.proofs.fields.take_field.Tie as tie
 
-first-byte-requires : tie.Need-first-byte-requires
-first-byte-requires c κs = search needs
-
-read-integer-requires : tie.Need-read-integer-requires
-read-integer-requires c κs = search needs
-
-enum-known-z : tie.Need-enum-known-z
-enum-known-z c = search needs
-
-enum-told : tie.Need-enum-told
-enum-told c = search needs
-
 returns : tie.Need-returns
 unfolding takenInteger heldField
 returns c =
     field-integer (c .before .before .before .before .before .before .before .before .args .form .now) _ _ _ (c .before .before .before .before .before .first-byte .ensures) _ _ (c .before .before .before .before .if1 .taken) (c .before .before .before .if2 .taken) (c .before .before .read-integer .ensures)
     (rw (c .enum-told .given .1))
-
-hold-integer-requires : tie.Need-hold-integer-requires
-hold-integer-requires c κs = search needs
-
-add-integer-requires : tie.Need-add-integer-requires
-add-integer-requires c κs = search needs
 
 returns-2 : tie.Need-returns-2
 returns-2 c =
@@ -42,34 +24,16 @@ returns-2 c =
     field-integer (c .before .before .before .before .before .before .before .before .before .before .before .args .form .now) _ _ _ (c .before .before .before .before .before .before .before .before .first-byte .ensures) _ _ (c .before .before .before .before .before .before .before .if1 .taken) (c .before .before .before .before .before .before .if2 .taken) (c .before .before .before .before .before .read-integer .ensures)
     (taken-integer _ (c .before .before .before .before .before .before .before .before .before .before .before .pre) _ _ _ _ (c .before .before .before .z .given .1) (toZ-ofZ (sfits-of (c .before .hold-integer .ok)) ∙ c .before .hold-integer .ensures ∙ ap heldZ same) (c .add-integer .ensures))
 
-read-natural-requires : tie.Need-read-natural-requires
-read-natural-requires c κs = search needs
-
-enum-known-n : tie.Need-enum-known-n
-enum-known-n c = search needs
-
-enum-told-2 : tie.Need-enum-told-2
-enum-told-2 c = search needs
-
 returns-3 : tie.Need-returns-3
 unfolding takenNatural heldField
 returns-3 c =
     field-natural (c .before .before .before .before .before .before .before .before .args .form .now) _ _ _ (c .before .before .before .before .before .first-byte .ensures) _ _ (c .before .before .before .before .if1 .taken) (c .before .before .before .if2 .left) (c .before .before .read-natural .ensures)
     (rw (c .enum-told2 .given .1))
 
-hold-natural-requires : tie.Need-hold-natural-requires
-hold-natural-requires c κs = search needs
-
-add-natural-requires : tie.Need-add-natural-requires
-add-natural-requires c κs = search needs
-
 returns-4 : tie.Need-returns-4
 returns-4 c =
     field-natural (c .before .before .before .before .before .before .before .before .before .before .before .args .form .now) _ _ _ (c .before .before .before .before .before .before .before .before .first-byte .ensures) _ _ (c .before .before .before .before .before .before .before .if1 .taken) (c .before .before .before .before .before .before .if2 .left) (c .before .before .before .before .before .read-natural .ensures)
     (taken-natural _ (c .before .before .before .before .before .before .before .before .before .before .before .pre) _ _ _ _ (c .before .before .before .n .given .1) (c .before .hold-natural .ensures) (c .add-natural .ensures))
-
-same-bytes-requires : tie.Need-same-bytes-requires
-same-bytes-requires c κs = search needs
 
 returns-5 : tie.Need-returns-5
 returns-5 c =
@@ -83,21 +47,21 @@ pub take-field-spec : {M : Type 1} → statement M
 take-field-spec =
     tie.close
     (tie.spec
-    first-byte-requires
-    read-integer-requires
-    enum-known-z
-    enum-told
+    (λ c κs. search needs)
+    (λ c κs. search needs)
+    (λ c. search needs)
+    (λ c. search needs)
     returns
-    hold-integer-requires
-    add-integer-requires
+    (λ c κs. search needs)
+    (λ c κs. search needs)
     returns-2
-    read-natural-requires
-    enum-known-n
-    enum-told-2
+    (λ c κs. search needs)
+    (λ c. search needs)
+    (λ c. search needs)
     returns-3
-    hold-natural-requires
-    add-natural-requires
+    (λ c κs. search needs)
+    (λ c κs. search needs)
     returns-4
-    same-bytes-requires
+    (λ c κs. search needs)
     returns-5
     returns-6)

@@ -4,12 +4,6 @@ use borrow.Author.Needs.{needs}
 use Rattle.scan.proofs.line.data_line.Statement.{statement}
 use Rattle.scan.proofs.line.data_line.Tie as tie
 
-enum-known-f : tie.Need-enum-known-f
-enum-known-f c = search needs
-
-enum-known-f-2 : tie.Need-enum-known-f-2
-enum-known-f-2 c = search needs
-
 returns : tie.Need-returns
 returns c =
     ap dataLine (sym (c .before .f .given .1))
@@ -19,4 +13,4 @@ returns-2 c =
     ap dataLine (sym (c .before .f2 .given .1))
 
 pub data-line-spec : {M : Type 1} → statement M
-data-line-spec = tie.close (tie.spec enum-known-f enum-known-f-2 returns returns-2)
+data-line-spec = tie.close (tie.spec (λ c. search needs) (λ c. search needs) returns returns-2)

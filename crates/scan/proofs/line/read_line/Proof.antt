@@ -21,44 +21,11 @@ returns c =
     let args = c .before .before .before .before .args in
     line-empty (args .problem .now) (args .data .now) (args .s .now) (c .if1 .taken)
 
-first-at-requires : tie.Need-first-at-requires
-first-at-requires c κs = search needs
-
-front-requires : tie.Need-front-requires
-front-requires c κs = search needs
-
-slice-aggregate-same-bytes : tie.Need-slice-aggregate-same-bytes
-slice-aggregate-same-bytes c = search needs
-
-same-bytes-requires : tie.Need-same-bytes-requires
-same-bytes-requires c κs = search needs
-
 returns-2 : tie.Need-returns-2
 returns-2 c =
     let args = c .before .before .before .before .before .before .before .before .before .args in
     let letter = first-field _ _ _ (c .before .before .before .before .first-at .ensures .0) (c .before .before .before .front .ensures) in
     line-comment (args .problem .now) (args .data .now) (args .s .now) _ (c .before .before .before .before .before .if1 .left) letter (sym (c .before .same-bytes .ensures) ∙ c .if2 .taken)
-
-first-at-requires-2 : tie.Need-first-at-requires-2
-first-at-requires-2 c κs = search needs
-
-front-requires-2 : tie.Need-front-requires-2
-front-requires-2 c κs = search needs
-
-same-bytes-requires-2 : tie.Need-same-bytes-requires-2
-same-bytes-requires-2 c κs = search needs
-
-read-fields-requires : tie.Need-read-fields-requires
-read-fields-requires c κs = search needs
-
-enum-known-f : tie.Need-enum-known-f
-enum-known-f c = search needs
-
-enum-told : tie.Need-enum-told
-enum-told c = search needs
-
-data-line-requires : tie.Need-data-line-requires
-data-line-requires c κs = search needs
 
 returns-3 : tie.Need-returns-3
 returns-3 c =
@@ -71,21 +38,6 @@ returns-4 c =
     let args = c .before .before .before .before .before .before .before .before .before .before .before .before .before .before .before .before .before .args in
     let b = c .before .before .before .before .before in
     ap problemLine (sym (c .before .f .given .1)) ∙ line-problem (args .problem .now) (args .data .now) (args .s .now) _ _ (letters b) _ (sym (b .same-bytes2 .ensures) ∙ c .before .before .before .before .if3 .taken) (c .before .before .before .read-fields .ensures)
-
-first-at-requires-3 : tie.Need-first-at-requires-3
-first-at-requires-3 c κs = search needs
-
-front-requires-3 : tie.Need-front-requires-3
-front-requires-3 c κs = search needs
-
-same-bytes-requires-3 : tie.Need-same-bytes-requires-3
-same-bytes-requires-3 c κs = search needs
-
-read-fields-requires-2 : tie.Need-read-fields-requires-2
-read-fields-requires-2 c κs = search needs
-
-data-line-requires-2 : tie.Need-data-line-requires-2
-data-line-requires-2 c κs = search needs
 
 returns-5 : tie.Need-returns-5
 returns-5 c =
@@ -110,24 +62,24 @@ read-line-spec =
     tie.close
     (tie.spec
     returns
-    first-at-requires
-    front-requires
-    slice-aggregate-same-bytes
-    same-bytes-requires
+    (λ c κs. search needs)
+    (λ c κs. search needs)
+    (λ c. search needs)
+    (λ c κs. search needs)
     returns-2
-    first-at-requires-2
-    front-requires-2
-    same-bytes-requires-2
-    read-fields-requires
-    enum-known-f
-    enum-told
-    data-line-requires
+    (λ c κs. search needs)
+    (λ c κs. search needs)
+    (λ c κs. search needs)
+    (λ c κs. search needs)
+    (λ c. search needs)
+    (λ c. search needs)
+    (λ c κs. search needs)
     returns-3
     returns-4
-    first-at-requires-3
-    front-requires-3
-    same-bytes-requires-3
-    read-fields-requires-2
-    data-line-requires-2
+    (λ c κs. search needs)
+    (λ c κs. search needs)
+    (λ c κs. search needs)
+    (λ c κs. search needs)
+    (λ c κs. search needs)
     returns-5
     returns-6)

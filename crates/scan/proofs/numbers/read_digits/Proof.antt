@@ -16,12 +16,6 @@ Inv-loop s v₀ i₀ v i = (i ≤ length s) × ((v ≤ 10000000000) × (heldNatu
 abbrev μ-loop : tie.MeasureT-loop
 μ-loop s v₀ i₀ v i = length s - i
 
-loop-holds : tie.Need-loop-holds Inv-loop μ-loop
-loop-holds c = search needs
-
-shared-slice-read-b : tie.Need-shared-slice-read-b Inv-loop μ-loop
-shared-slice-read-b c = search needs
-
 returns : tie.Need-returns Inv-loop μ-loop
 unfolding heldNatural
 returns c = rw (c .before .before .before .loop .inv .1 .1, digits-low _ _ _ (c .before .before .loop-test .taken) (c .if1 .taken))
@@ -29,15 +23,6 @@ returns c = rw (c .before .before .before .loop .inv .1 .1, digits-low _ _ _ (c 
 returns-2 : tie.Need-returns-2 Inv-loop μ-loop
 unfolding heldNatural
 returns-2 c = rw (c .before .before .before .before .loop .inv .1 .1, digits-high _ _ _ (c .before .before .before .loop-test .taken) (c .before .if1 .left) (c .if2 .taken))
-
-longer-requires : tie.Need-longer-requires Inv-loop μ-loop
-longer-requires c κs = search needs
-
-add-i : tie.Need-add-i Inv-loop μ-loop
-add-i c = search needs
-
-loop-less : tie.Need-loop-less Inv-loop μ-loop
-loop-less c = search needs
 
 loop-again : tie.Need-loop-again Inv-loop μ-loop
 loop-again c =
@@ -60,12 +45,12 @@ read-digits-spec =
     (tie.spec
     Inv-loop
     μ-loop
-    loop-holds
-    shared-slice-read-b
+    (λ c. search needs)
+    (λ c. search needs)
     returns
     returns-2
-    longer-requires
-    add-i
-    loop-less
+    (λ c κs. search needs)
+    (λ c. search needs)
+    (λ c. search needs)
     loop-again
     returns-3)

@@ -4,15 +4,9 @@ use borrow.Author.Needs.{needs}
 use Rattle.scan.proofs.numbers.read_integer.Statement.{statement}
 use Rattle.scan.proofs.numbers.read_integer.Tie as tie
 
-first-byte-requires : tie.Need-first-byte-requires
-first-byte-requires c κs = search needs
-
 rest-requires : tie.Need-rest-requires
 rest-requires c κs =
     some-byte (c .before .before .before .args .s .now) _ (c .before .first-byte .ensures) (c .if1 .taken)
-
-read-natural-requires : tie.Need-read-natural-requires
-read-natural-requires c κs = search needs
 
 with-minus-requires : tie.Need-with-minus-requires
 with-minus-requires c κs = held-again _ _ (c .read-natural .ensures)
@@ -21,9 +15,6 @@ returns : tie.Need-returns
 returns c =
     c .with-minus .ensures
     ∙ integer-minus (c .before .before .before .before .before .before .args .s .now) _ (c .before .before .before .before .first-byte .ensures) _ _ (c .before .before .rest .ensures) (c .before .before .before .if1 .taken) (c .before .read-natural .ensures)
-
-read-natural-requires-2 : tie.Need-read-natural-requires-2
-read-natural-requires-2 c κs = search needs
 
 without-minus-requires : tie.Need-without-minus-requires
 without-minus-requires c κs = held-again _ _ (c .read-natural2 .ensures)
@@ -37,11 +28,11 @@ pub read-integer-spec : {M : Type 1} → statement M
 read-integer-spec =
     tie.close
     (tie.spec
-    first-byte-requires
+    (λ c κs. search needs)
     rest-requires
-    read-natural-requires
+    (λ c κs. search needs)
     with-minus-requires
     returns
-    read-natural-requires-2
+    (λ c κs. search needs)
     without-minus-requires
     returns-2)

@@ -5,16 +5,10 @@ use borrow.Author.Needs.{needs}
 use Rattle.scan.proofs.numbers.read_natural.Statement.{statement}
 use Rattle.scan.proofs.numbers.read_natural.Tie as tie
 
-first-byte-requires : tie.Need-first-byte-requires
-first-byte-requires c κs = search needs
-
 returns : tie.Need-returns
 unfolding heldNatural
 returns c =
     sym (ap heldNatural (natural-none (c .before .before .before .args .s .now) (c .if1 .taken)))
-
-read-digits-requires : tie.Need-read-digits-requires
-read-digits-requires c κs = search needs
 
 returns-2 : tie.Need-returns-2
 unfolding heldNatural
@@ -26,9 +20,6 @@ unfolding heldNatural
 returns-3 c =
     sym (ap heldNatural (natural-padded (c .before .before .before .before .before .args .s .now) _ (c .before .before .before .first-byte .ensures) (c .before .before .if1 .left) (c .before .if2 .left) (c .if3 .taken)))
 
-read-digits-requires-2 : tie.Need-read-digits-requires-2
-read-digits-requires-2 c κs = search needs
-
 returns-4 : tie.Need-returns-4
 unfolding heldNatural
 returns-4 c =
@@ -39,10 +30,10 @@ pub read-natural-spec : {M : Type 1} → statement M
 read-natural-spec =
     tie.close
     (tie.spec
-    first-byte-requires
+    (λ c κs. search needs)
     returns
-    read-digits-requires
+    (λ c κs. search needs)
     returns-2
     returns-3
-    read-digits-requires-2
+    (λ c κs. search needs)
     returns-4)

@@ -12,12 +12,6 @@ use Rattle.scan.proofs.numbers.with_minus.Tie as tie
 small : (c : tie.After-known-told) → c .before .n .given .0 .0 ≤ 10000000000
 small c = held-most _ _ (c .before .before .before .pre) (c .before .n .given .1)
 
-enum-known-n : tie.Need-enum-known-n
-enum-known-n c = search needs
-
-enum-told : tie.Need-enum-told
-enum-told c = search needs
-
 returns : tie.Need-returns
 unfolding negated
 returns c = ap negated (sym (c .enum-told .given .1))
@@ -39,4 +33,4 @@ returns-3 c =
 
 pub with-minus-spec : {M : Type 1} → statement M
 with-minus-spec =
-    tie.close (tie.spec enum-known-n enum-told returns returns-2 cast-t4 sub-t5 returns-3)
+    tie.close (tie.spec (λ c. search needs) (λ c. search needs) returns returns-2 cast-t4 sub-t5 returns-3)

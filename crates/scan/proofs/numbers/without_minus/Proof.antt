@@ -8,12 +8,6 @@ use borrow.Author.Needs.{needs}
 use Rattle.scan.proofs.numbers.without_minus.Statement.{statement}
 use Rattle.scan.proofs.numbers.without_minus.Tie as tie
 
-enum-known-n : tie.Need-enum-known-n
-enum-known-n c = search needs
-
-enum-told : tie.Need-enum-told
-enum-told c = search needs
-
 returns : tie.Need-returns
 unfolding plain
 returns c = ap plain (sym (c .enum-told .given .1))
@@ -28,4 +22,4 @@ returns-2 c =
     rw (toZ-pos w64 {n = c .before .n .given .0 .0} (omega (arith, held-most _ _ (c .before .before .before .pre) (c .before .n .given .1)))) (ap plain (sym (c .before .n .given .1)))
 
 pub without-minus-spec : {M : Type 1} → statement M
-without-minus-spec = tie.close (tie.spec enum-known-n enum-told returns cast-t3 returns-2)
+without-minus-spec = tie.close (tie.spec (λ c. search needs) (λ c. search needs) returns cast-t3 returns-2)

@@ -7,9 +7,6 @@ use Rattle.search.proofs.Answering.{count-small, none-answers, route-fi
 use Rattle.search.proofs.find.find.Statement.{statement}
 use Rattle.search.proofs.find.find.Tie as tie
 
-run-requires : tie.Need-run-requires
-run-requires c κs = search needs
-
 cast-settled : tie.Need-cast-settled
 cast-settled c =
     let s = c .before .before .before .before .before .before .before in
@@ -26,27 +23,6 @@ trace-requires c κs =
     let fits = route-fits (s .pre .0) _ (s .args .s) (s .args .t) (s .pre .2) (s .pre .3) (s .args .route .now) (s .pre .6) (c .before .before .before .before .run .ensures) (not-false _ (c .before .if1 .left)) in
     (s .pre .4, omega (arith, s .pre .0), widened (s .pre .0), s .pre .1, fits)
 
-sub-t21 : tie.Need-sub-t21
-sub-t21 c = search needs
-
-mul-t22 : tie.Need-mul-t22
-mul-t22 c = search needs
-
-element-copy-out-t25 : tie.Need-element-copy-out-t25
-element-copy-out-t25 c = search needs
-
-sub-t26 : tie.Need-sub-t26
-sub-t26 c = search needs
-
-mul-t27 : tie.Need-mul-t27
-mul-t27 c = search needs
-
-element-copy-out-t30 : tie.Need-element-copy-out-t30
-element-copy-out-t30 c = search needs
-
-same-length : tie.Need-same-length
-same-length c = search needs
-
 returns-2 : tie.Need-returns-2
 returns-2 c =
     let s = c .before .before .before .before .before .before .before .before .before .before .before .before .before .before in
@@ -56,15 +32,15 @@ pub find-spec : {M : Type 1} → statement M
 find-spec =
     tie.close
     (tie.spec
-    run-requires
+    (λ c κs. search needs)
     cast-settled
     returns
     trace-requires
-    sub-t21
-    mul-t22
-    element-copy-out-t25
-    sub-t26
-    mul-t27
-    element-copy-out-t30
-    same-length
+    (λ c. search needs)
+    (λ c. search needs)
+    (λ c. search needs)
+    (λ c. search needs)
+    (λ c. search needs)
+    (λ c. search needs)
+    (λ c. search needs)
     returns-2)

@@ -34,29 +34,11 @@ fine c e =
     let l = long-boxes (a .n) (a .m) (a .x .now) (a .y .now) (a .boxes .now) (and-true _ _ (f .1) .0) in
     (f .0 .nodes-high, f .0 .arcs-high, l .0, l .1, l .2)
 
-box-rows-long-requires : tie.Need-box-rows-long-requires
-box-rows-long-requires c κs = search needs
-
-judge-network-requires : tie.Need-judge-network-requires
-judge-network-requires c κs = search needs
-
-enum-told : tie.Need-enum-told
-enum-told c = search needs
-
-enum-told-2 : tie.Need-enum-told-2
-enum-told-2 c = search needs
-
 returns : tie.Need-returns
 returns c = out _ (told (c .before .before)) (c .enum-told2 .given .1) ∙ sym (boxed-judged _ _ _ _ _ _ _ _ _)
 
 judge-places-requires : tie.Need-judge-places-requires
 judge-places-requires c κs = let f = fine (c .before .before) (c .enum-told .given .1) in (f .0, f .2, f .3)
-
-enum-told-3 : tie.Need-enum-told-3
-enum-told-3 c = search needs
-
-enum-told-4 : tie.Need-enum-told-4
-enum-told-4 c = search needs
 
 returns-2 : tie.Need-returns-2
 returns-2 c =
@@ -65,19 +47,10 @@ returns-2 c =
 judge-boxes-requires : tie.Need-judge-boxes-requires
 judge-boxes-requires c κs = let f = fine (c .before .before .before .before .before) (c .before .before .before .enum-told .given .1) in (f .1, f .4)
 
-enum-told-5 : tie.Need-enum-told-5
-enum-told-5 c = search needs
-
-enum-told-6 : tie.Need-enum-told-6
-enum-told-6 c = search needs
-
 returns-3 : tie.Need-returns-3
 returns-3 c =
     on (told (c .before .before .before .before .before .before .before .before)) (c .before .before .before .before .before .before .enum-told .given .1)
     (on (c .before .before .before .before .before .judge-places .ensures) (c .before .before .before .enum-told3 .given .1) (out _ (c .before .before .judge-boxes .ensures) (c .enum-told6 .given .1))) ∙ sym (boxed-judged _ _ _ _ _ _ _ _ _)
-
-judge-ends-requires : tie.Need-judge-ends-requires
-judge-ends-requires c κs = search needs
 
 returns-4 : tie.Need-returns-4
 returns-4 c =
@@ -88,18 +61,18 @@ pub judge-boxed-spec : {M : Type 1} → statement M
 judge-boxed-spec =
     tie.close
     (tie.spec
-    box-rows-long-requires
-    judge-network-requires
-    enum-told
-    enum-told-2
+    (λ c κs. search needs)
+    (λ c κs. search needs)
+    (λ c. search needs)
+    (λ c. search needs)
     returns
     judge-places-requires
-    enum-told-3
-    enum-told-4
+    (λ c. search needs)
+    (λ c. search needs)
     returns-2
     judge-boxes-requires
-    enum-told-5
-    enum-told-6
+    (λ c. search needs)
+    (λ c. search needs)
     returns-3
-    judge-ends-requires
+    (λ c κs. search needs)
     returns-4)

@@ -17,30 +17,9 @@ use Rattle.search.proofs.judge.judge_network.Tie as tie
 asked : {j : Judged} {long arcs : Bool} (others : Bool) → j ≡ passes (long && others) RowTooShort → long ≡ arcs → j ≡ passes (arcs && others) RowTooShort
 asked others e h = rw h at e
 
-judge-sizes-requires : tie.Need-judge-sizes-requires
-judge-sizes-requires c κs = search needs
-
-enum-told : tie.Need-enum-told
-enum-told c = search needs
-
-enum-told-2 : tie.Need-enum-told-2
-enum-told-2 c = search needs
-
 returns : tie.Need-returns
 unfolding networkJudged
 returns c = out _ (c .before .before .judge-sizes .ensures) (c .enum-told2 .given .1)
-
-arc-rows-long-requires : tie.Need-arc-rows-long-requires
-arc-rows-long-requires c κs = search needs
-
-unless-requires : tie.Need-unless-requires
-unless-requires c κs = search needs
-
-enum-told-3 : tie.Need-enum-told-3
-enum-told-3 c = search needs
-
-enum-told-4 : tie.Need-enum-told-4
-enum-told-4 c = search needs
 
 returns-2 : tie.Need-returns-2
 unfolding networkJudged
@@ -66,14 +45,14 @@ pub judge-network-spec : {M : Type 1} → statement M
 judge-network-spec =
     tie.close
     (tie.spec
-    judge-sizes-requires
-    enum-told
-    enum-told-2
+    (λ c κs. search needs)
+    (λ c. search needs)
+    (λ c. search needs)
     returns
-    arc-rows-long-requires
-    unless-requires
-    enum-told-3
-    enum-told-4
+    (λ c κs. search needs)
+    (λ c κs. search needs)
+    (λ c. search needs)
+    (λ c. search needs)
     returns-2
     judge-arcs-requires
     returns-3)

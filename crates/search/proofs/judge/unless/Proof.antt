@@ -3,11 +3,8 @@ use borrow.Author.Needs.{needs}
 use Rattle.search.proofs.judge.unless.Statement.{statement}
 use Rattle.search.proofs.judge.unless.Tie as tie
 
-returns : tie.Need-returns
-returns c = search needs
-
 returns-2 : tie.Need-returns-2
 returns-2 c = rw (c .if1 .left)
 
 pub unless-spec : {M : Type 1} → statement M
-unless-spec = tie.close (tie.spec returns returns-2)
+unless-spec = tie.close (tie.spec (λ c. search needs) returns-2)

@@ -5,14 +5,8 @@ use Rattle.settling.specs.declared.Outcome.{Outcome}
 use Rattle.settling.proofs.run.label_all.Statement.{statement}
 use Rattle.settling.proofs.run.label_all.Tie as tie
 
-slice-aggregate-run : tie.Need-slice-aggregate-run
-slice-aggregate-run c = search needs
-
-run-requires : tie.Need-run-requires
-run-requires c κs = search needs
-
 returns : tie.Need-returns
 returns c = ap (λ (o : Outcome). o .labels) (c .before .run .ensures)
 
 pub label-all-spec : {M : Type 1} → statement M
-label-all-spec = tie.close (tie.spec slice-aggregate-run run-requires returns)
+label-all-spec = tie.close (tie.spec (λ c. search needs) (λ c κs. search needs) returns)

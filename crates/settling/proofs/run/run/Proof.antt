@@ -63,12 +63,6 @@ loop-holds c =
 nearest-requires : tie.Need-nearest-requires Inv-loop μ-loop
 nearest-requires c κs = omega arith
 
-enum-known-p : tie.Need-enum-known-p Inv-loop μ-loop
-enum-known-p c = search needs
-
-enum-told : tie.Need-enum-told Inv-loop μ-loop
-enum-told c = search needs
-
 returns : tie.Need-returns Inv-loop μ-loop
 returns c =
     let i = c .before .before .before .before .loop in
@@ -118,8 +112,8 @@ run-spec =
     start-requires
     loop-holds
     nearest-requires
-    enum-known-p
-    enum-told
+    (λ c. search needs)
+    (λ c. search needs)
     returns
     add-t15
     returns-2

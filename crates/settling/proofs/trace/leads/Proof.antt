@@ -5,12 +5,6 @@ use Rattle.settling.specs.TraceLaws.{fits-yes, fits-no}
 use Rattle.settling.proofs.trace.leads.Statement.{statement}
 use Rattle.settling.proofs.trace.leads.Tie as tie
 
-add-if1 : tie.Need-add-if1
-add-if1 c = search needs
-
-add-result : tie.Need-add-result
-add-result c = search needs
-
 returns : tie.Need-returns
 returns c = sym (fits-yes _ _ _ _ _ (c .if1 .taken))
 
@@ -18,4 +12,4 @@ returns-2 : tie.Need-returns-2
 returns-2 c = sym (fits-no _ _ _ _ _ (c .if1 .left))
 
 pub leads-spec : {M : Type 1} → statement M
-leads-spec = tie.close (tie.spec add-if1 add-result returns returns-2)
+leads-spec = tie.close (tie.spec (λ c. search needs) (λ c. search needs) returns returns-2)

@@ -38,9 +38,6 @@ mul-count c = omega arith
 element-copy-out-count : tie.Need-element-copy-out-count Inv-loop μ-loop
 element-copy-out-count c = omega arith
 
-cast-count : tie.Need-cast-count Inv-loop μ-loop
-cast-count c = search needs
-
 loop-holds : tie.Need-loop-holds Inv-loop μ-loop
 loop-holds c = (omega arith, omega arith, omega arith, omega arith, refl, refl)
 
@@ -48,12 +45,6 @@ arc-into-requires : tie.Need-arc-into-requires Inv-loop μ-loop
 arc-into-requires c κs =
     let p = c .before .before .before .before .before .before .before .pre in
     (omega arith, omega arith, p .2, p .3)
-
-enum-known-into : tie.Need-enum-known-into Inv-loop μ-loop
-enum-known-into c = search needs
-
-enum-told : tie.Need-enum-told Inv-loop μ-loop
-enum-told c = search needs
 
 same-length : tie.Need-same-length Inv-loop μ-loop
 same-length c = omega arith
@@ -133,11 +124,11 @@ trace-spec =
     sub-count
     mul-count
     element-copy-out-count
-    cast-count
+    (λ c. search needs)
     loop-holds
     arc-into-requires
-    enum-known-into
-    enum-told
+    (λ c. search needs)
+    (λ c. search needs)
     same-length
     returns
     sub-at

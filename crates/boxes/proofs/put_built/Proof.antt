@@ -1,0 +1,38 @@
+-- `boxes::put_built` meets its contract. Assumes nothing.
+use native.Mathlib.Omega.{arith}
+use Rattle.files.proofs.PageLaws.{puts-case}
+use Rattle.boxes.specs.Prints.{builtText}
+use borrow.Author.Needs.{needs}
+use Rattle.boxes.proofs.put_built.Statement.{statement}
+use Rattle.boxes.proofs.put_built.Tie as tie
+
+enum-told : tie.Need-enum-told
+enum-told c = search needs
+
+put-listing-requires : tie.Need-put-listing-requires
+put-listing-requires c κs = search needs
+
+returns : tie.Need-returns
+unfolding builtText
+returns c = (puts-case (builtText _ _ _) (c .before .before .before .before .before .before .enum-told .given .1) (c .put-listing .ensures .0), omega arith)
+
+enum-known-answer : tie.Need-enum-known-answer
+enum-known-answer c = search needs
+
+put-place-requires : tie.Need-put-place-requires
+put-place-requires c κs = search needs
+
+returns-2 : tie.Need-returns-2
+unfolding builtText
+returns-2 c = (puts-case (builtText _ _ _) (c .before .before .before .answer .given .1) (c .put-place .ensures .0), omega arith)
+
+pub put-built-spec : {M : Type 1} → statement M
+put-built-spec =
+    tie.close
+    (tie.spec
+    enum-told
+    put-listing-requires
+    returns
+    enum-known-answer
+    put-place-requires
+    returns-2)
