@@ -5,6 +5,8 @@ use mathlib.Core.List.{List}
 use mathlib.Core.Bool.{Bool, false}
 use native.Mathlib.Numerals.{unary-clauses}
 use lib.ListN.{length, take, drop}
+use Rattle.files.specs.File.{Held}
+use Rattle.files.specs.Page.{Replied}
 use Rattle.commands.specs.Words.{wordsOf}
 use Rattle.commands.specs.declared.Command.{Command}
 use Rattle.commands.specs.declared.Command.the-variants.{Lend, Fresh, Other}
@@ -15,7 +17,7 @@ use Rattle.lending.specs.Lending.{storedIn, lentIn}
 use Rattle.lending.specs.declared.rows.Lent.{Lent}
 use Rattle.replies.specs.Replies.{okLine}
 use Rattle.requests.specs.Desk.{Desk}
-use Rattle.requests.specs.Requests.{Held, Meets, Replied}
+use Rattle.requests.specs.Requests.{Meets}
 use Rattle.requests.specs.declared.Sizes.{Sizes}
 use Rattle.console.specs.Input.{askedBy}
 use Rattle.console.specs.State.{fresh}

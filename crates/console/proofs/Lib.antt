@@ -1,3 +1,4 @@
 mod AnswerLaws
 mod HeardLaws
 mod InputLaws
+pub mod Unique

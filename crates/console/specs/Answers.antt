@@ -5,6 +5,8 @@ use mathlib.Core.List.{List, _++_}
 use mathlib.Core.Bool.{Bool, true, false, _&&_}
 use lib.Dec.{eqb}
 use lib.ListN.{length, take, drop}
+use Rattle.files.specs.File.{Held}
+use Rattle.files.specs.Page.{Replied}
 use Rattle.commands.specs.Words.{wordsOf}
 use Rattle.commands.specs.declared.Fault.{Fault}
 use Rattle.commands.specs.declared.Request.{Request}
@@ -16,7 +18,7 @@ use Rattle.lending.specs.Lending.{storedIn, lentIn}
 use Rattle.lending.specs.declared.rows.Lent.{Lent}
 use Rattle.replies.specs.Replies.{okLine, faultLine}
 use Rattle.requests.specs.Desk.{Desk, desk}
-use Rattle.requests.specs.Requests.{Held, Meets, Replied}
+use Rattle.requests.specs.Requests.{Meets}
 use Rattle.requests.specs.declared.Sizes.{Sizes}
 use Rattle.console.specs.Input.{askedBy}
 

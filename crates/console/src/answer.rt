@@ -1,9 +1,9 @@
 // A line is answered: its reply is put on the page.
 ghost use mathlib.Core.Path.{_≡_};
 ghost use lib.ListN.{take};
+ghost use Rattle.files.specs.Page.{Replied};
 ghost use Rattle.commands.specs.declared.Command.the-variants.{Other};
 ghost use Rattle.lending.specs.Rows.{rows, Full, Within};
-ghost use Rattle.requests.specs.Requests.{Replied};
 ghost use Rattle.console.specs.State.{Well};
 ghost use Rattle.console.specs.Input.{askedBy};
 ghost use Rattle.console.specs.Answers.{console, Answers, Answered};

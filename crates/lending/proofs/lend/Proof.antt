@@ -7,22 +7,10 @@ use borrow.Author.Needs.{needs}
 use Rattle.lending.proofs.lend.Statement.{statement}
 use Rattle.lending.proofs.lend.Tie as tie
 
-after-word-requires : tie.Need-after-word-requires
-after-word-requires c κs = search needs
-
-after-word-requires-2 : tie.Need-after-word-requires-2
-after-word-requires-2 c κs = search needs
-
-enum-told : tie.Need-enum-told
-enum-told c = search needs
-
 store-counts-requires : tie.Need-store-counts-requires
 store-counts-requires c κs =
     let h = lend-ready _ _ _ (c .before .before .before .before .after-word .ensures) (c .before .before .before .after-word2 .ensures) _ row.Tails (c .before .before .before .before .before .before .before .before .before .before .pre .0) (c .before .enum-told .given .1) in
     (h .0, omega (arith, h .1, c .before .before .before .before .before .before .before .before .before .before .pre .1 .tails))
-
-same-length : tie.Need-same-length
-same-length c = search needs
 
 returns : tie.Need-returns
 unfolding lentIn storedIn
@@ -30,16 +18,10 @@ returns c =
     let w = values-after _ _ _ (c .before .before .before .before .before .before .before .after-word .ensures) (c .before .before .before .before .before .before .after-word2 .ensures) in
     (rw (c .before .before .before .before .enum-told .given .1, c .before .before .store-counts .ensures .0, w), rw (c .before .before .before .before .enum-told .given .1, c .before .before .store-counts .ensures .1, w))
 
-enum-told-2 : tie.Need-enum-told-2
-enum-told-2 c = search needs
-
 store-counts-requires-2 : tie.Need-store-counts-requires-2
 store-counts-requires-2 c κs =
     let h = lend-ready _ _ _ (c .before .before .before .before .after-word .ensures) (c .before .before .before .after-word2 .ensures) _ row.Heads (c .before .before .before .before .before .before .before .before .before .before .pre .0) (c .before .enum-told2 .given .1) in
     (h .0, omega (arith, h .1, c .before .before .before .before .before .before .before .before .before .before .pre .1 .heads))
-
-same-length-2 : tie.Need-same-length-2
-same-length-2 c = search needs
 
 returns-2 : tie.Need-returns-2
 unfolding lentIn storedIn
@@ -47,16 +29,10 @@ returns-2 c =
     let w = values-after _ _ _ (c .before .before .before .before .before .before .before .after-word .ensures) (c .before .before .before .before .before .before .after-word2 .ensures) in
     (rw (c .before .before .before .before .enum-told2 .given .1, c .before .before .store-counts2 .ensures .0, w), rw (c .before .before .before .before .enum-told2 .given .1, c .before .before .store-counts2 .ensures .1, w))
 
-enum-told-3 : tie.Need-enum-told-3
-enum-told-3 c = search needs
-
 store-counts-requires-3 : tie.Need-store-counts-requires-3
 store-counts-requires-3 c κs =
     let h = lend-ready _ _ _ (c .before .before .before .before .after-word .ensures) (c .before .before .before .after-word2 .ensures) _ row.Weights (c .before .before .before .before .before .before .before .before .before .before .pre .0) (c .before .enum-told3 .given .1) in
     (h .0, omega (arith, h .1, c .before .before .before .before .before .before .before .before .before .before .pre .1 .weights))
-
-same-length-3 : tie.Need-same-length-3
-same-length-3 c = search needs
 
 returns-3 : tie.Need-returns-3
 unfolding lentIn storedIn
@@ -64,16 +40,10 @@ returns-3 c =
     let w = values-after _ _ _ (c .before .before .before .before .before .before .before .after-word .ensures) (c .before .before .before .before .before .before .after-word2 .ensures) in
     (rw (c .before .before .before .before .enum-told3 .given .1, c .before .before .store-counts3 .ensures .0, w), rw (c .before .before .before .before .enum-told3 .given .1, c .before .before .store-counts3 .ensures .1, w))
 
-enum-told-4 : tie.Need-enum-told-4
-enum-told-4 c = search needs
-
 store-numbers-requires : tie.Need-store-numbers-requires
 store-numbers-requires c κs =
     let h = lend-ready _ _ _ (c .before .before .before .before .after-word .ensures) (c .before .before .before .after-word2 .ensures) _ row.X (c .before .before .before .before .before .before .before .before .before .before .pre .0) (c .before .enum-told4 .given .1) in
     (h .0, omega (arith, h .1, c .before .before .before .before .before .before .before .before .before .before .pre .1 .x))
-
-same-length-4 : tie.Need-same-length-4
-same-length-4 c = search needs
 
 returns-4 : tie.Need-returns-4
 unfolding lentIn storedIn
@@ -81,16 +51,10 @@ returns-4 c =
     let w = values-after _ _ _ (c .before .before .before .before .before .before .after-word .ensures) (c .before .before .before .before .before .after-word2 .ensures) in
     (rw (c .before .before .before .enum-told4 .given .1, c .before .store-numbers .ensures .0, w), rw (c .before .before .before .enum-told4 .given .1, c .before .store-numbers .ensures .1, w))
 
-enum-told-5 : tie.Need-enum-told-5
-enum-told-5 c = search needs
-
 store-numbers-requires-2 : tie.Need-store-numbers-requires-2
 store-numbers-requires-2 c κs =
     let h = lend-ready _ _ _ (c .before .before .before .before .after-word .ensures) (c .before .before .before .after-word2 .ensures) _ row.Y (c .before .before .before .before .before .before .before .before .before .before .pre .0) (c .before .enum-told5 .given .1) in
     (h .0, omega (arith, h .1, c .before .before .before .before .before .before .before .before .before .before .pre .1 .y))
-
-same-length-5 : tie.Need-same-length-5
-same-length-5 c = search needs
 
 returns-5 : tie.Need-returns-5
 unfolding lentIn storedIn
@@ -98,16 +62,10 @@ returns-5 c =
     let w = values-after _ _ _ (c .before .before .before .before .before .before .after-word .ensures) (c .before .before .before .before .before .after-word2 .ensures) in
     (rw (c .before .before .before .enum-told5 .given .1, c .before .store-numbers2 .ensures .0, w), rw (c .before .before .before .enum-told5 .given .1, c .before .store-numbers2 .ensures .1, w))
 
-enum-told-6 : tie.Need-enum-told-6
-enum-told-6 c = search needs
-
 store-numbers-requires-3 : tie.Need-store-numbers-requires-3
 store-numbers-requires-3 c κs =
     let h = lend-ready _ _ _ (c .before .before .before .before .after-word .ensures) (c .before .before .before .after-word2 .ensures) _ row.Boxes (c .before .before .before .before .before .before .before .before .before .before .pre .0) (c .before .enum-told6 .given .1) in
     (h .0, omega (arith, h .1, c .before .before .before .before .before .before .before .before .before .before .pre .1 .boxes))
-
-same-length-6 : tie.Need-same-length-6
-same-length-6 c = search needs
 
 returns-6 : tie.Need-returns-6
 unfolding lentIn storedIn
@@ -115,16 +73,10 @@ returns-6 c =
     let w = values-after _ _ _ (c .before .before .before .before .before .before .after-word .ensures) (c .before .before .before .before .before .after-word2 .ensures) in
     (rw (c .before .before .before .enum-told6 .given .1, c .before .store-numbers3 .ensures .0, w), rw (c .before .before .before .enum-told6 .given .1, c .before .store-numbers3 .ensures .1, w))
 
-enum-told-7 : tie.Need-enum-told-7
-enum-told-7 c = search needs
-
 store-counts-requires-4 : tie.Need-store-counts-requires-4
 store-counts-requires-4 c κs =
     let h = lend-ready _ _ _ (c .before .before .before .before .after-word .ensures) (c .before .before .before .after-word2 .ensures) _ row.Route (c .before .before .before .before .before .before .before .before .before .before .pre .0) (c .before .enum-told7 .given .1) in
     (h .0, omega (arith, h .1, c .before .before .before .before .before .before .before .before .before .before .pre .1 .route))
-
-same-length-7 : tie.Need-same-length-7
-same-length-7 c = search needs
 
 returns-7 : tie.Need-returns-7
 unfolding lentIn storedIn
@@ -136,33 +88,33 @@ pub lend-spec : {M : Type 1} → statement M
 lend-spec =
     tie.close
     (tie.spec
-    after-word-requires
-    after-word-requires-2
-    enum-told
+    (λ c κs. search needs)
+    (λ c κs. search needs)
+    (λ c. search needs)
     store-counts-requires
-    same-length
+    (λ c. search needs)
     returns
-    enum-told-2
+    (λ c. search needs)
     store-counts-requires-2
-    same-length-2
+    (λ c. search needs)
     returns-2
-    enum-told-3
+    (λ c. search needs)
     store-counts-requires-3
-    same-length-3
+    (λ c. search needs)
     returns-3
-    enum-told-4
+    (λ c. search needs)
     store-numbers-requires
-    same-length-4
+    (λ c. search needs)
     returns-4
-    enum-told-5
+    (λ c. search needs)
     store-numbers-requires-2
-    same-length-5
+    (λ c. search needs)
     returns-5
-    enum-told-6
+    (λ c. search needs)
     store-numbers-requires-3
-    same-length-6
+    (λ c. search needs)
     returns-6
-    enum-told-7
+    (λ c. search needs)
     store-counts-requires-4
-    same-length-7
+    (λ c. search needs)
     returns-7)

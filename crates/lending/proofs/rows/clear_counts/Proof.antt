@@ -13,18 +13,6 @@ Inv-loop row₀ i₀ row i = Clearing 0 row₀ row i
 abbrev μ-loop : tie.MeasureT-loop
 μ-loop row₀ i₀ row i = length row - i
 
-loop-holds : tie.Need-loop-holds Inv-loop μ-loop
-loop-holds c = search needs
-
-mul-row : tie.Need-mul-row Inv-loop μ-loop
-mul-row c = search needs
-
-slice-write-row : tie.Need-slice-write-row Inv-loop μ-loop
-slice-write-row c = search needs
-
-add-i : tie.Need-add-i Inv-loop μ-loop
-add-i c = search needs
-
 loop-less : tie.Need-loop-less Inv-loop μ-loop
 loop-less c = simp length-set (omega arith)
 
@@ -43,10 +31,10 @@ clear-counts-spec =
     (tie.spec
     Inv-loop
     μ-loop
-    loop-holds
-    mul-row
-    slice-write-row
-    add-i
+    (λ c. search needs)
+    (λ c. search needs)
+    (λ c. search needs)
+    (λ c. search needs)
     loop-less
     loop-again
     same-length

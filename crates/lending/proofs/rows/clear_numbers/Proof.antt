@@ -14,18 +14,6 @@ Inv-loop row₀ i₀ row i = Clearing (pos 0) row₀ row i
 abbrev μ-loop : tie.MeasureT-loop
 μ-loop row₀ i₀ row i = length row - i
 
-loop-holds : tie.Need-loop-holds Inv-loop μ-loop
-loop-holds c = search needs
-
-mul-row : tie.Need-mul-row Inv-loop μ-loop
-mul-row c = search needs
-
-slice-set-of-row : tie.Need-slice-set-of-row Inv-loop μ-loop
-slice-set-of-row c = search needs
-
-add-i : tie.Need-add-i Inv-loop μ-loop
-add-i c = search needs
-
 loop-less : tie.Need-loop-less Inv-loop μ-loop
 loop-less c = simp length-set (omega arith)
 
@@ -44,10 +32,10 @@ clear-numbers-spec =
     (tie.spec
     Inv-loop
     μ-loop
-    loop-holds
-    mul-row
-    slice-set-of-row
-    add-i
+    (λ c. search needs)
+    (λ c. search needs)
+    (λ c. search needs)
+    (λ c. search needs)
     loop-less
     loop-again
     same-length
