@@ -61,8 +61,8 @@ reads-places-unique (ReadsPlaces.file {bytes = bytes} r h p) (ReadsPlaces.file {
 -- ---- the requests
 
 pub meets-unique : {held : Held} {d : Desk} {r : Request} {reply reply′ : List ℕ} {after after′ : Desk} → Meets held d r reply after → Meets held d r reply′ after′ → (reply ≡ reply′) × (after ≡ after′)
-meets-unique Meets.n Meets.n = (refl, refl)
-meets-unique Meets.m Meets.m = (refl, refl)
+meets-unique Meets.set-n Meets.set-n = (refl, refl)
+meets-unique Meets.set-m Meets.set-m = (refl, refl)
 meets-unique Meets.show Meets.show = (refl, refl)
 meets-unique (Meets.gr g) (Meets.gr g′) = let e = reads-graph-unique g g′ in (e .0, rw (e .1, e .2, e .3, e .4))
 meets-unique (Meets.co p) (Meets.co p′) = let e = reads-places-unique p p′ in (e .0, rw (e .1, e .2))

@@ -80,8 +80,8 @@ pub data ReadsPlaces (held : Held) (n : ℕ) (x y : List ℤ) : List ℕ → Lis
 -- ---- the requests; a file that is asked for holds `held`
 
 pub data Meets (held : Held) (d : Desk) : Request → List ℕ → Desk → Type 0 where
-  n : {v : ℕ} → Meets held d (request.SetN v) okLine (withSizes d (record { n = v; m = d .sizes .m }))
-  m : {v : ℕ} → Meets held d (request.SetM v) okLine (withSizes d (record { n = d .sizes .n; m = v }))
+  set-n : {v : ℕ} → Meets held d (request.SetN v) okLine (withSizes d (record { n = v; m = d .sizes .m }))
+  set-m : {v : ℕ} → Meets held d (request.SetM v) okLine (withSizes d (record { n = d .sizes .n; m = v }))
   show : {row : Row} {shown : Shown}
       → Meets held d (request.Show row shown) (showLine row shown (d .tails) (d .heads) (d .weights) (d .x) (d .y) (d .boxes) (d .route)) d
   gr : {reply : List ℕ} {sizes : Sizes} {tails heads weights : List ℕ}

@@ -9,10 +9,10 @@ use Rattle.requests.proofs.obey.Statement.{statement}
 use Rattle.requests.proofs.obey.Tie as tie
 
 returns : tie.Need-returns
-returns c = (record { held = unread; reply = okLine; says = meets-case (c .before .before .before .request .given .1) Meets.n; puts = c .put-ok .ensures .0 }, omega arith)
+returns c = (record { held = unread; reply = okLine; says = meets-case (c .before .before .before .request .given .1) Meets.set-n; puts = c .put-ok .ensures .0 }, omega arith)
 
 returns-2 : tie.Need-returns-2
-returns-2 c = (record { held = unread; reply = okLine; says = meets-case (c .before .before .before .request2 .given .1) Meets.m; puts = c .put-ok2 .ensures .0 }, omega arith)
+returns-2 c = (record { held = unread; reply = okLine; says = meets-case (c .before .before .before .request2 .given .1) Meets.set-m; puts = c .put-ok2 .ensures .0 }, omega arith)
 
 returns-3 : tie.Need-returns-3
 returns-3 c = (record { held = unread; reply = _; says = meets-case (c .before .before .before .before .before .before .before .before .before .before .request3 .given .1) Meets.show; puts = c .show-row .ensures .0 }, omega arith)
