@@ -65,13 +65,10 @@ read-co-spec =
     returns-2
     returns-3
     read-sheet-requires
-    (λ c. search needs)
-    (λ c. search needs)
-    (λ c. search needs)
+    (λ c. search needs) (λ c. search needs) (λ c. search needs)
     put-integers-requires
     (λ c. search needs)
     put-integers-requires-2
-    (λ c. search needs)
-    (λ c. search needs)
+    (λ c. search needs) (λ c. search needs)
     returns-4
     returns-5)

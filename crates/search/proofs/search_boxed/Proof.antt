@@ -51,9 +51,7 @@ pub search-boxed-spec : {M : Type 1} → statement M
 search-boxed-spec =
     tie.close
     (tie.spec
-    (λ c κs. search needs)
-    (λ c. search needs)
-    (λ c. search needs)
+    (λ c κs. search needs) (λ c. search needs) (λ c. search needs)
     sub-at
     (λ c. search needs)
     shared-slice-copy-out-t20

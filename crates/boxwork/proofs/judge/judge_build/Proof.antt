@@ -33,10 +33,7 @@ pub judge-build-spec : {M : Type 1} → statement M
 judge-build-spec =
     tie.close
     (tie.spec
-    (λ c κs. search needs)
-    (λ c κs. search needs)
-    (λ c. search needs)
-    (λ c. search needs)
+    (λ c κs. search needs) (λ c κs. search needs) (λ c. search needs) (λ c. search needs)
     returns
     judge-places-requires
     returns-2)

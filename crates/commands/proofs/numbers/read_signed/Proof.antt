@@ -41,9 +41,7 @@ pub read-signed-spec : {M : Type 1} → statement M
 read-signed-spec =
     tie.close
     (tie.spec
-    (λ c κs. search needs)
-    (λ c. search needs)
-    (λ c. search needs)
+    (λ c κs. search needs) (λ c. search needs) (λ c. search needs)
     returns
     returns-2
     returns-3

@@ -32,11 +32,7 @@ put-spec =
     Inv-loop
     μ-loop
     loop-holds
-    (λ c. search needs)
-    (λ c. search needs)
-    (λ c. search needs)
-    (λ c. search needs)
-    (λ c. search needs)
+    (λ c. search needs) (λ c. search needs) (λ c. search needs) (λ c. search needs) (λ c. search needs)
     loop-again
     (λ c. search needs)
     returns)

@@ -18,10 +18,6 @@ pub put-sizes-spec : {M : Type 1} → statement M
 put-sizes-spec =
     tie.close
     (tie.spec
-    (λ c. search needs)
-    (λ c κs. search needs)
-    (λ c. search needs)
-    (λ c κs. search needs)
-    (λ c. search needs)
+    (λ c. search needs) (λ c κs. search needs) (λ c. search needs) (λ c κs. search needs) (λ c. search needs)
     (λ c κs. search needs)
     returns)

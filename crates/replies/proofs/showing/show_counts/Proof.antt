@@ -36,12 +36,10 @@ pub show-counts-spec : {M : Type 1} → statement M
 show-counts-spec =
     tie.close
     (tie.spec
-    (λ c κs. search needs)
-    (λ c κs. search needs)
+    (λ c κs. search needs) (λ c κs. search needs)
     returns
     (λ c κs. search needs)
     slice-aggregate-put-counts
     put-counts-requires
-    (λ c. search needs)
-    (λ c κs. search needs)
+    (λ c. search needs) (λ c κs. search needs)
     returns-2)

@@ -36,12 +36,10 @@ pub show-numbers-spec : {M : Type 1} → statement M
 show-numbers-spec =
     tie.close
     (tie.spec
-    (λ c κs. search needs)
-    (λ c κs. search needs)
+    (λ c κs. search needs) (λ c κs. search needs)
     returns
     (λ c κs. search needs)
     slice-aggregate-put-numbers
     put-numbers-requires
-    (λ c. search needs)
-    (λ c κs. search needs)
+    (λ c. search needs) (λ c κs. search needs)
     returns-2)

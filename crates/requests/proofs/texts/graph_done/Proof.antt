@@ -24,9 +24,7 @@ pub graph-done-spec : {M : Type 1} → statement M
 graph-done-spec =
     tie.close
     (tie.spec
-    (λ c. search needs)
-    (λ c κs. search needs)
+    (λ c. search needs) (λ c κs. search needs)
     returns
-    (λ c. search needs)
-    (λ c κs. search needs)
+    (λ c. search needs) (λ c κs. search needs)
     returns-2)

@@ -112,8 +112,7 @@ run-spec =
     start-requires
     loop-holds
     nearest-requires
-    (λ c. search needs)
-    (λ c. search needs)
+    (λ c. search needs) (λ c. search needs)
     returns
     add-t15
     returns-2

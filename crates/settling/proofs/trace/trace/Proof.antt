@@ -127,8 +127,7 @@ trace-spec =
     (λ c. search needs)
     loop-holds
     arc-into-requires
-    (λ c. search needs)
-    (λ c. search needs)
+    (λ c. search needs) (λ c. search needs)
     same-length
     returns
     sub-at
