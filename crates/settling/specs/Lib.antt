@@ -9,6 +9,8 @@ pub mod Nearest
 pub mod NearestLaws
 pub mod Run
 pub mod RunLaws
+pub mod Chain
+pub mod Front
 pub mod Trace
 pub mod TraceLaws
 pub mod Seen
@@ -16,6 +18,7 @@ pub mod NearestIs
 pub mod SeenLaws
 pub mod SettleIs
 pub mod RunIs
+pub mod Stride
 pub mod TraceIs
 pub mod Right
 pub mod LengthsTo

@@ -3,7 +3,8 @@ ghost use mathlib.Core.Path.{_≡_};
 ghost use Prim.Native.Nat.{_≤_};
 ghost use Rattle.settling.specs.Toward.{Room, keeps};
 
-mod nearest;
+mod chain;
+mod front;
 pub mod run;
 mod settle;
 pub mod trace;
@@ -26,6 +27,14 @@ pub struct Outcome {
     pub labels: Labels,
     pub count: usize,
     pub found: bool,
+}
+
+// What a settling step ends with: the labels, how many nodes are settled, whether the run is over, and whether it found its target.
+pub struct Stride {
+    pub labels: Labels,
+    pub count: usize,
+    pub found: bool,
+    pub over: bool,
 }
 
 // The arc by which a node has its label, or that there is none.

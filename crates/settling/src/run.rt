@@ -7,11 +7,16 @@ ghost use Rattle.settling.specs.Run.{searchOf, labelsOf};
 ghost use Rattle.settling.specs.Toward.{Room, keeps};
 use crate::Labels;
 use crate::Outcome;
-use crate::Pick;
 use crate::Toward;
-use crate::nearest::nearest;
+use crate::chain::link;
+use crate::front::FAR;
+use crate::front::key;
+use crate::front::put;
 use crate::settle::settle;
 use crate::settle::start;
+
+// How many nodes a search settles in a step.
+const STEP: usize = 16;
 
 // Settles node after node from `s` on, until the next is the target `t` or none is left. Target 0 is never found: all
 // that can be reached is labelled.
@@ -29,31 +34,40 @@ pub fn run(
     requires { ⌜ (1 ≤ s) × (s ≤ n) × Sound n m (rows (now tails) (now heads) (now weights)) × Room toward m (now boxes) ⌝ }
     ensures { λ r. ⌜ r ≡ searchOf (rows (now (tails .entry)) (now (heads .entry)) (now (weights .entry))) (keeps toward (now (boxes .entry))) n m t s ⌝ }
 {
+    let mut first = [m as u32; 512];
+    let mut next = [0u32; 2048];
+    link(m, tails, &mut first, &mut next);
+    let mut tree = [FAR; 1024];
+    put(&mut tree, s - 1, key(0, 0, s - 1));
     let mut labels = start(s);
     let mut count: usize = 0;
-    while count < n {
-        let p = nearest(labels, n);
-        let Pick::Node(u) = p else {
+    loop {
+        let r = settle(
+            labels,
+            count,
+            STEP,
+            &mut tree,
+            s,
+            t,
+            n,
+            m,
+            tails,
+            heads,
+            weights,
+            &first,
+            &next,
+            toward,
+            boxes,
+        );
+        labels = r.labels;
+        count = r.count;
+        if r.over {
             return Outcome {
                 labels,
                 count,
-                found: false,
-            };
-        };
-        if u == t {
-            return Outcome {
-                labels,
-                count: count + 1,
-                found: true,
+                found: r.found,
             };
         }
-        labels = settle(labels, u, m, tails, heads, weights, toward, boxes);
-        count += 1;
-    }
-    Outcome {
-        labels,
-        count,
-        found: false,
     }
 }
 
@@ -71,7 +85,29 @@ pub fn label_all(
 {
     // of no arc is a box asked
     let boxes = [0i32; 1];
-    let o = run(s, 0, n, m, tails, heads, weights, Toward::Anywhere, &boxes);
-    let labels = o.labels;
-    labels
+    let mut first = [m as u32; 512];
+    let mut next = [0u32; 2048];
+    link(m, tails, &mut first, &mut next);
+    let mut tree = [FAR; 1024];
+    put(&mut tree, s - 1, key(0, 0, s - 1));
+    let labels = start(s);
+    let r = settle(
+        labels,
+        0,
+        n + 1,
+        &mut tree,
+        s,
+        0,
+        n,
+        m,
+        tails,
+        heads,
+        weights,
+        &first,
+        &next,
+        Toward::Anywhere,
+        &boxes,
+    );
+    let last = r.labels;
+    last
 }

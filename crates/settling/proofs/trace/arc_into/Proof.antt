@@ -1,29 +1,43 @@
--- `settling::trace::arc_into` meets its contract. The loop's invariant: the look from place j on is the whole look. Assumes nothing.
-use Prim.Native.Nat.{_+_, _-_, _≤_}
+-- `settling::trace::arc_into` meets its contract. The loop's invariant: the look from place j on is the whole look, and j is
+-- the place of the next arc into v. Assumes nothing.
+use Prim.Native.Nat.{_+_, _-_, _<_, _≤_}
 use native.Mathlib.Omega.{arith}
-use mathlib.Core.Path.{sym, _∙_}
+use mathlib.Core.Path.{_≡_, sym, _∙_}
 use mathlib.Core.Logic.{⊎-elim}
+use mathlib.Core.List.{[]}
 use lib.ListN.{getD}
 use Rattle.walks.specs.Rows.{rows, SoundArc, arc-at}
+use Rattle.settling.specs.Chain.{From}
+use Rattle.settling.specs.Front.{labels}
 use Rattle.settling.specs.Trace.{arcFits, intoOf}
-use Rattle.settling.specs.TraceLaws.{Rest, hit, miss, over, into-whole, arc-other, arc-shut, arc-fits}
+use Rattle.settling.specs.TraceLaws.{Rest, hit, miss, over, into-whole, arc-shut, arc-fits}
 use Rattle.settling.specs.Toward.{keeps, room-less}
+use Rattle.settling.proofs.ChainLaws.{rest-from}
 use Rattle.settling.proofs.trace.arc_into.Statement.{statement}
 use Rattle.settling.proofs.trace.arc_into.Tie as tie
 
 abbrev Inv-loop : tie.InvT-loop
-Inv-loop v m tails heads weights toward boxes labels l k j₀ j =
-    Rest (arcFits (rows tails heads weights) (keeps toward boxes) labels v) m (intoOf (rows tails heads weights) (keeps toward boxes) labels v m) j × (j ≤ m)
+Inv-loop length arcs v m tails heads weights first next toward boxes l k j₀ j =
+    Rest (arcFits (rows tails heads weights) (keeps toward boxes) (labels length arcs []) v) m (intoOf (rows tails heads weights) (keeps toward boxes) (labels length arcs []) v m) j
+    × (j ≤ m)
+    × (j < m → getD heads j 0 ≡ v)
 
 abbrev μ-loop : tie.MeasureT-loop
-μ-loop v m tails heads weights toward boxes labels l k j₀ j = m - j
+μ-loop length arcs v m tails heads weights first next toward boxes l k j₀ j = m - j
 
 -- the arc at hand is sound
 arc :
     (c : tie.In-loop Inv-loop μ-loop) →
-    let a = c .before .before .before .before .before .before .before .args in
+    let a = c .before .before .before .before .before .before .before .before .args in
     let j = c .before .loop .j in SoundArc 512 (getD (a .tails .now) j 0) (getD (a .heads .now) j 0) (getD (a .weights .now) j 0)
-arc c = arc-at (c .before .before .before .before .before .before .before .pre .2) (c .before .loop .j) (c .loop-test .taken)
+arc c = arc-at (c .before .before .before .before .before .before .before .before .pre .2) (c .before .loop .j) (c .loop-test .taken)
+
+-- the next arc into v
+following :
+    (c : tie.In-loop Inv-loop μ-loop) →
+    let a = c .before .before .before .before .before .before .before .before .args in
+    let j = c .before .loop .j in From (a .m) (a .heads .now) (a .v) (j + 1) (getD (a .next .now) j 0)
+following c = rw (c .before .loop .inv .2 (c .loop-test .taken)) at (c .before .before .before .before .before .before .before .before .pre .4 .nexts (c .before .loop .j) (c .loop-test .taken))
 
 sub-l : tie.Need-sub-l Inv-loop μ-loop
 sub-l c = omega arith
@@ -43,94 +57,117 @@ mul-k c = omega arith
 element-copy-out-k : tie.Need-element-copy-out-k Inv-loop μ-loop
 element-copy-out-k c = omega arith
 
+sub-j : tie.Need-sub-j Inv-loop μ-loop
+sub-j c = omega arith
+
+mul-j : tie.Need-mul-j Inv-loop μ-loop
+mul-j c = omega arith
+
+element-copy-out-j : tie.Need-element-copy-out-j Inv-loop μ-loop
+element-copy-out-j c = omega arith
+
+cast-j : tie.Need-cast-j Inv-loop μ-loop
+cast-j c = let s = c .before .before .before .before .before .before in omega (arith, s .pre .4 .firsts (s .args .v) (s .pre .0) (s .pre .1) .high, s .pre .2 .arcs-high)
+
 loop-holds : tie.Need-loop-holds Inv-loop μ-loop
-loop-holds c = (into-whole _ _ _ _ _, omega arith)
-
-mul-if1 : tie.Need-mul-if1 Inv-loop μ-loop
-mul-if1 c = omega arith
-
-shared-slice-read-if1 : tie.Need-shared-slice-read-if1 Inv-loop μ-loop
-shared-slice-read-if1 c = omega arith
-
-cast-if1 : tie.Need-cast-if1 Inv-loop μ-loop
-cast-if1 c = omega (arith, c .shared-slice-known4 .given (c .before .before .loop .j))
+loop-holds c =
+    let s = c .before .before .before .before .before .before in
+    let f = s .pre .4 .firsts (s .args .v) (s .pre .0) (s .pre .1) in
+    let R = rows (s .args .tails .now) (s .args .heads .now) (s .args .weights .now) in
+    let K = keeps (s .args .toward) (s .args .boxes .now) in
+    let L = labels (s .args .length .now) (s .args .arcs .now) [] in
+    let v = s .args .v in
+    let whole = intoOf R K L v (s .args .m) in
+    (rest-from R K L v whole f (into-whole R K L v (s .args .m)), f .high, f .holds)
 
 add-passes : tie.Need-add-passes Inv-loop μ-loop
-add-passes c = omega arith
+add-passes c = let s = c .before .before .before .before .before .before .before .before in omega (arith, s .pre .2 .arcs-high)
 
 passes-requires : tie.Need-passes-requires Inv-loop μ-loop
 passes-requires c κs =
-    let s = c .before .before .before .before .before .before .before .before .before in
-    (omega arith, room-less (s .args .toward) (s .args .boxes .now) (s .args .m) (c .before .before .before .loop .j + 1) (omega arith) (s .pre .3))
+    let s = c .before .before .before .before .before .before .before .before in
+    (omega arith, room-less (s .args .toward) (s .args .boxes .now) (s .args .m) (c .before .loop .j + 1) (omega arith) (s .pre .3))
 
 mul-u : tie.Need-mul-u Inv-loop μ-loop
-mul-u c = omega arith
+mul-u c = let s = c .before .before .before .before .before .before .before .before .before .before in omega (arith, s .pre .2)
 
 shared-slice-read-u : tie.Need-shared-slice-read-u Inv-loop μ-loop
-shared-slice-read-u c = omega arith
+shared-slice-read-u c = let s = c .before .before .before .before .before .before .before .before .before .before .before in omega (arith, s .pre .2)
 
 cast-u : tie.Need-cast-u Inv-loop μ-loop
-cast-u c = let a = arc (c .before .before .before .before .before) in omega arith
+cast-u c = let a = arc (c .before .before .before) in omega arith
 
 sub-u : tie.Need-sub-u Inv-loop μ-loop
-sub-u c = let a = arc (c .before .before .before .before .before) in omega arith
+sub-u c = let a = arc (c .before .before .before) in omega arith
 
 mul-from-l : tie.Need-mul-from-l Inv-loop μ-loop
-mul-from-l c = let a = arc (c .before .before .before .before .before) in omega arith
+mul-from-l c = let a = arc (c .before .before .before) in omega arith
 
 element-copy-out-from-l : tie.Need-element-copy-out-from-l Inv-loop μ-loop
-element-copy-out-from-l c = let a = arc (c .before .before .before .before .before) in omega arith
+element-copy-out-from-l c = let a = arc (c .before .before .before) in omega arith
 
 mul-from-k : tie.Need-mul-from-k Inv-loop μ-loop
-mul-from-k c = let a = arc (c .before .before .before .before .before .before) in omega arith
+mul-from-k c = let a = arc (c .before .before .before .before) in omega arith
 
 element-copy-out-from-k : tie.Need-element-copy-out-from-k Inv-loop μ-loop
-element-copy-out-from-k c = let a = arc (c .before .before .before .before .before .before) in omega arith
+element-copy-out-from-k c = let a = arc (c .before .before .before .before) in omega arith
 
 mul-leads : tie.Need-mul-leads Inv-loop μ-loop
-mul-leads c = omega arith
+mul-leads c = let s = c .before .before .before .before .before .before .before .before .before .before .before .before .before in omega (arith, s .pre .2)
 
 shared-slice-read-leads : tie.Need-shared-slice-read-leads Inv-loop μ-loop
-shared-slice-read-leads c = omega arith
+shared-slice-read-leads c = let s = c .before .before .before .before .before .before .before .before .before .before .before .before .before .before in omega (arith, s .pre .2)
 
 leads-requires : tie.Need-leads-requires Inv-loop μ-loop
 leads-requires c κs = tt
 
 add-t40 : tie.Need-add-t40 Inv-loop μ-loop
-add-t40 c = omega arith
+add-t40 c = let s = c .before .before .before .before .before .before .before .before .before .before .before .before .before .before .before .before in omega (arith, s .pre .2 .arcs-high, c .before .before .before .before .before .before .before .before .loop-test .taken)
 
 returns : tie.Need-returns Inv-loop μ-loop
 returns c =
-    let a = c .before .before .before .before .before .before .before .before .before .before .before .before .before .before .before .before .before .args in
-    let i = c .before .before .before .before .before .before .before .before .before .before .before .loop in
-    let R = rows (a .tails .now) (a .heads .now) (a .weights .now) in
-    let K = keeps (a .toward) (a .boxes .now) in
-    hit _ (a .m) (intoOf R K (a .t1) (a .v) (a .m)) (i .j) (i .inv .0) (omega arith)
-    (arc-fits R K (a .t1) (a .v) (i .j)
-    (c .before .before .before .before .before .before .before .before .if1 .taken)
-    (sym (c .before .before .before .before .before .before .before .passes .ensures) ∙ c .before .before .before .before .before .before .if2 .taken)
-    (sym (c .before .leads .ensures) ∙ c .if3 .taken))
+    let s = c .before .before .before .before .before .before .before .before .before .before .before .before .before .before .before .before in
+    let i = c .before .before .before .before .before .before .before .before .before .loop in
+    let R = rows (s .args .tails .now) (s .args .heads .now) (s .args .weights .now) in
+    let K = keeps (s .args .toward) (s .args .boxes .now) in
+    let L = labels (s .args .length .now) (s .args .arcs .now) [] in
+    let v = s .args .v in
+    let whole = intoOf R K L v (s .args .m) in
+    hit _ (s .args .m) whole (i .j) (i .inv .0) (c .before .before .before .before .before .before .before .before .loop-test .taken)
+    (arc-fits R K L v (i .j) (i .inv .2 (c .before .before .before .before .before .before .before .before .loop-test .taken)) (sym (c .before .before .before .before .before .before .before .passes .ensures) ∙ c .before .before .before .before .before .before .if1 .taken) (sym (c .before .leads .ensures) ∙ c .if2 .taken))
 
-add-j : tie.Need-add-j Inv-loop μ-loop
-add-j c = omega arith
+mul-j-2 : tie.Need-mul-j-2 Inv-loop μ-loop
+mul-j-2 c = let s = c .before .before .before .before .before .before .before .before .before .before in omega (arith, s .pre .2 .arcs-high, c .before .before .loop-test .taken)
+
+element-copy-out-j-2 : tie.Need-element-copy-out-j-2 Inv-loop μ-loop
+element-copy-out-j-2 c = let s = c .before .before .before .before .before .before .before .before .before .before in omega (arith, s .pre .2 .arcs-high, c .before .before .loop-test .taken)
+
+cast-j-2 : tie.Need-cast-j-2 Inv-loop μ-loop
+cast-j-2 c = let f = following (c .before .before .before) in let s = c .before .before .before .before .before .before .before .before .before .before .before in omega (arith, f .high, s .pre .2 .arcs-high)
 
 loop-less : tie.Need-loop-less Inv-loop μ-loop
-loop-less c = omega arith
+loop-less c = let f = following (c .before .before .before) in omega (arith, f .low, f .high)
 
 loop-again : tie.Need-loop-again Inv-loop μ-loop
 loop-again c =
-    let a = c .before .before .before .before .before .before .before .before .before .args in
-    let i = c .before .before .before .loop in
-    let R = rows (a .tails .now) (a .heads .now) (a .weights .now) in
-    let K = keeps (a .toward) (a .boxes .now) in (
-      miss _ (a .m) (intoOf R K (a .t1) (a .v) (a .m)) (i .j) (i .inv .0)
+    let s = c .before .before .before .before .before .before .before .before .before .before .before in
+    let i = c .before .before .before .before .loop in
+    let f = following (c .before .before .before) in
+    let out = i .inv .2 (c .before .before .before .loop-test .taken) in
+    let asked = sym (c .before .before .passes .ensures) in
+    let R = rows (s .args .tails .now) (s .args .heads .now) (s .args .weights .now) in
+    let K = keeps (s .args .toward) (s .args .boxes .now) in
+    let L = labels (s .args .length .now) (s .args .arcs .now) [] in
+    let v = s .args .v in
+    let whole = intoOf R K L v (s .args .m) in (
+      rest-from R K L v whole f
+          (miss _ (s .args .m) whole (i .j) (i .inv .0)
           (⊎-elim
-          (λ w. arc-fits R K (a .t1) (a .v) (i .j) (w .0 .taken) (sym (w .1 .ensures) ∙ w .2 .taken) (sym (w .7 .ensures) ∙ w .8 .left))
-          (⊎-elim
-          (λ w. arc-shut R K (a .t1) (a .v) (i .j) (w .0 .taken) (sym (w .1 .ensures) ∙ w .2 .left))
-          (λ w. arc-other R K (a .t1) (a .v) (i .j) (w .left)))
-          (c .if1 .came)),
-      omega arith,
+          (λ w. arc-fits R K L v (i .j) out (asked ∙ w .0 .taken) (sym (w .5 .ensures) ∙ w .6 .left))
+          (λ w. arc-shut R K L v (i .j) out (asked ∙ w .left))
+          (c .before .if1 .came))),
+      f .high,
+      f .holds,
     )
 
 returns-2 : tie.Need-returns-2 Inv-loop μ-loop
@@ -148,10 +185,11 @@ arc-into-spec =
     sub-k
     mul-k
     element-copy-out-k
+    sub-j
+    mul-j
+    element-copy-out-j
+    cast-j
     loop-holds
-    mul-if1
-    shared-slice-read-if1
-    cast-if1
     add-passes
     passes-requires
     mul-u
@@ -167,7 +205,9 @@ arc-into-spec =
     leads-requires
     add-t40
     returns
-    add-j
+    mul-j-2
+    element-copy-out-j-2
+    cast-j-2
     loop-less
     loop-again
     returns-2)

@@ -1,0 +1,14 @@
+-- `settling::front::nearest` meets its contract. Assumes nothing.
+use borrow.Author.Needs.{needs}
+use Rattle.settling.proofs.FrontLaws.{pick-none, pick-some}
+use Rattle.settling.proofs.front.nearest.Statement.{statement}
+use Rattle.settling.proofs.front.nearest.Tie as tie
+
+returns : tie.Need-returns
+returns c = pick-none _ (c .if1 .taken)
+
+returns-2 : tie.Need-returns-2
+returns-2 c = pick-some _ (c .if1 .left)
+
+pub nearest-spec : {M : Type 1} → statement M
+nearest-spec = tie.close (tie.spec (λ c. search needs) returns returns-2)
