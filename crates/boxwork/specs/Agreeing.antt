@@ -20,8 +20,10 @@ use Rattle.walks.specs.RouteLaws.{route-unique}
 use Rattle.walks.specs.Pruning.{SameAnswers}
 use Rattle.geometry.specs.Row.{goodPlace, goodBox}
 use Rattle.settling.specs.Choice.{and-yes}
-use Rattle.search.specs.Judge.{boxRowsLong, networkJudged, searchJudged, boxedJudged}
-use Rattle.search.specs.JudgeLaws.{both-fine, search-judged, boxed-judged, network-fine}
+use Rattle.judging.specs.Judge.{networkJudged}
+use Rattle.search.specs.Judge.{boxRowsLong, searchJudged, boxedJudged}
+use Rattle.judging.specs.JudgeLaws.{both-fine, network-fine}
+use Rattle.search.specs.JudgeLaws.{search-judged, boxed-judged}
 use Rattle.search.specs.Says.{Answers, found, none, Says, refused, answered}
 use Rattle.boxwork.specs.Judge.{buildJudged, checkJudged}
 use Rattle.boxwork.specs.JudgeLaws.{build-judged, check-judged}

@@ -10,7 +10,8 @@ use Rattle.rules.specs.declared.Judged.{Judged}
 use Rattle.rules.specs.declared.Refusal.the-variants.{RowTooShort, BeyondLimits, BadCoordinate, BadBox, NotInNetwork}
 use Rattle.geometry.specs.Row.{goodPlace, goodBox}
 use Rattle.walks.specs.Rows.{Rows}
-use Rattle.search.specs.Judge.{sizes, arcRowsLong, boxRowsLong, arcs}
+use Rattle.judging.specs.Judge.{sizes, arcRowsLong, arcs}
+use Rattle.search.specs.Judge.{boxRowsLong}
 
 module _ (n m : ℕ) (R : Rows) (x y boxes : List ℤ) where
   -- a lent row is too short

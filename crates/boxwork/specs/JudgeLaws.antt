@@ -19,8 +19,10 @@ use Rattle.geometry.specs.Box.{Within, WellShaped}
 use Rattle.geometry.specs.Row.{coordinate, boxOf, goodPlace, goodBox}
 use Rattle.geometry.proofs.Tests.{place-yes, yes-within, shaped-yes, yes-shaped}
 use Rattle.settling.specs.Choice.{and-true, and-yes}
-use Rattle.search.specs.Judge.{sizes, arcRowsLong, boxRowsLong, goodArc, arcs, networkJudged}
-use Rattle.search.specs.JudgeLaws.{both-fine, passed, last, network-fine, long-boxes}
+use Rattle.judging.specs.Judge.{sizes, arcRowsLong, goodArc, arcs, networkJudged}
+use Rattle.search.specs.Judge.{boxRowsLong}
+use Rattle.judging.specs.JudgeLaws.{both-fine, passed, last, network-fine}
+use Rattle.search.specs.JudgeLaws.{long-boxes}
 use Rattle.boxwork.specs.Judge.{rowsLong, buildJudged, checkJudged, updateJudged, change}
 use Rattle.boxwork.specs.Says.{reweighted}
 

@@ -19,7 +19,7 @@ pub fn judge_build(
     ensures { λ r. ⌜ r ≡ buildJudged n m (rows (now (tails .entry)) (now (heads .entry)) (now (weights .entry))) (now (x .entry)) (now (y .entry)) (now (boxes .entry)) ⌝ }
 {
     let others = search::judge::box_rows_long(n, m, x, y, boxes);
-    let a = search::judge::judge_network(n, m, tails, heads, weights, others);
+    let a = judging::judge_network(n, m, tails, heads, weights, others);
     let Judged::Fine = a else {
         return a;
     };

@@ -8,18 +8,17 @@ use native.Mathlib.Nat.{pow-le-pow-right, pow-suc, mod-eq-of-lt, one-le-pow, not
 use lib.IntN.{ℤ, pos, negsuc, natAbs}
 use lib.Signed.{ltZ}
 use mathlib.Core.Bool.{true, false}
-use borrow.Author.Tests.{lt-ltb, le-ltb, ltb-true}
+use borrow.Author.Tests.{lt-ltb, ltb-true}
 use Rattle.io.specs.Digits.{digits, Fewest}
-use Rattle.files.specs.Decimal.{spelt, decimal, whole}
+use Rattle.scan.specs.Decimal.{decimal, whole}
+use Rattle.scan.proofs.DecimalLaws.{decimal-one, decimal-more}
 
-pub digits-spelt : (k f n : ℕ) → k ≤ f → Fewest 10 1 n k → digits 10 k n ≡ spelt f n
-unfolding spelt
-digits-spelt zero f n h x = absurd (not-suc-le-zero (x .0))
-digits-spelt (suc k) zero n h x = absurd (not-suc-le-zero h)
-digits-spelt (suc zero) (suc f) n h x =
+pub digits-decimal : (k n : ℕ) → Fewest 10 1 n k → digits 10 k n ≡ decimal n
+digits-decimal zero n x = absurd (not-suc-le-zero (x .0))
+digits-decimal (suc zero) n x =
     let small : n < 10 = x .1 in
-    simp (mod-eq-of-lt small, lt-ltb n 10 small)
-digits-spelt (suc (suc k)) (suc f) n h x =
+    simp (mod-eq-of-lt small, lt-ltb n 10 small, decimal-one n small)
+digits-decimal (suc (suc k)) n x =
     let a : 10 ^ suc k ≡ 10 ^ k * 10 = pow-suc 10 k in
     let b : 10 ^ suc (suc k) ≡ 10 ^ suc k * 10 = pow-suc 10 (suc k) in
     let e : suc (suc k) - 1 ≡ suc k = omega arith in
@@ -27,8 +26,8 @@ digits-spelt (suc (suc k)) (suc f) n h x =
     let low : 10 ^ suc k ≤ n = rw e at (x .2 (omega arith)) in
     let one : 1 ≤ 10 ^ k = one-le-pow k 10 (omega arith) in
     let digit : n % 10 < 10 = omega arith in
-    let rest = digits-spelt (suc k) f (n / 10) (omega arith) (omega arith, omega (arith, x .1), λ _. rw e₂ (omega arith)) in
-    simp (le-ltb n 10 (omega arith), lt-ltb (n % 10) 10 digit, rest)
+    let rest = digits-decimal (suc k) (n / 10) (omega arith, omega (arith, x .1), λ _. rw e₂ (omega arith)) in
+    simp (lt-ltb (n % 10) 10 digit, rest, decimal-more n (omega arith))
 
 -- a number of 64 bits has at most 20 digits
 pub few-digits : (n k : ℕ) → n < 2 ^ 64 → Fewest 10 1 n k → k ≤ 20

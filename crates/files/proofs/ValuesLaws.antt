@@ -10,7 +10,8 @@ use Rattle.rules.specs.Paper.{placeOf}
 use Rattle.rules.specs.declared.Refusal.{Refusal}
 use Rattle.rules.specs.declared.Refusal.the-variants.{TextTooLong, RowTooShort, NoForm, OutOfOrder, BeyondLimits, CountsDisagree, NodeAgain, BadArc, BadCoordinate, BadBox, NotInNetwork, NoWalk, BoxMisses}
 use Rattle.rules.proofs.Refusal as refusal
-use Rattle.files.specs.Decimal.{decimal, spaced, countsText}
+use Rattle.scan.specs.Decimal.{decimal}
+use Rattle.files.specs.Decimal.{spaced, countsText}
 use Rattle.files.specs.Refusals.{valuesText}
 
 single : (n : ℕ) → code " " ∷ decimal n ≡ countsText (n ∷ [])

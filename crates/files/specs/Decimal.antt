@@ -1,25 +1,9 @@
--- Numbers as text. Assumes nothing: these are definitions.
-use Prim.Native.Nat.{ℕ, zero, suc, _+_, _/_, _%_}
-use Prim.Native.Char.{code}
+-- Rows of numbers as text. Assumes nothing: these are definitions.
+use Prim.Native.Nat.{ℕ}
 use mathlib.Core.List.{List, [], _∷_, _++_}
-use mathlib.Core.Bool.{cond}
-use lib.Dec.{ltb}
-use lib.IntN.{ℤ, pos, negsuc}
+use lib.IntN.{ℤ}
 use Rattle.scan.specs.Ascii.{bytes}
-
--- a number of at most so many digits, the most significant first, without leading zeros
-unfoldable pub spelt : ℕ → ℕ → List ℕ
-spelt zero n = []
-spelt (suc more) n = cond (ltb n 10) ((code "0" + n) ∷ []) (spelt more (n / 10) ++ ((code "0" + n % 10) ∷ []))
-
--- a number of 64 bits
-unfoldable pub decimal : ℕ → List ℕ
-decimal n = spelt 20 n
-
--- a number that may be negative: one minus, then its size
-unfoldable pub whole : ℤ → List ℕ
-whole (pos n) = decimal n
-whole (negsuc n) = code "-" ∷ decimal (suc n)
+use Rattle.scan.specs.Decimal.{decimal, whole}
 
 -- a row's values, each after a space
 unfoldable pub spaced : {A : Type 0} → (A → List ℕ) → List A → List ℕ

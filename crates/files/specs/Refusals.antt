@@ -7,7 +7,8 @@ use Rattle.scan.specs.Ascii.{bytes}
 use Rattle.rules.specs.Paper.{refusal, numberOf, placeOf}
 use Rattle.rules.specs.declared.Refusal.{Refusal}
 use Rattle.rules.specs.declared.Refusal.the-variants.{TextTooLong, RowTooShort, NoForm, OutOfOrder, BeyondLimits, CountsDisagree, NodeAgain, BadArc, BadCoordinate, BadBox, NotInNetwork, NoWalk, BoxMisses}
-use Rattle.files.specs.Decimal.{decimal, countsText}
+use Rattle.scan.specs.Decimal.{decimal}
+use Rattle.files.specs.Decimal.{countsText}
 
 -- what `boxes` prints: the paper's number, and the first value or 0
 unfoldable pub placeLine : Refusal → List ℕ

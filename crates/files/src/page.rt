@@ -5,7 +5,7 @@ ghost use Prim.Native.Nat.{_+_, _≤_};
 ghost use lib.ListN.{length};
 ghost use lib.IntN.{natAbs};
 ghost use Rattle.files.specs.Page.{Puts};
-ghost use Rattle.files.specs.Decimal.{decimal, whole};
+ghost use Rattle.scan.specs.Decimal.{decimal, whole};
 
 // The bytes of a page: more than any listing or reply takes.
 pub const PAGE: usize = 368640;

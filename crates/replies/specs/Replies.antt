@@ -5,7 +5,8 @@ use lib.ListN.{take}
 use Rattle.scan.specs.Ascii.{bytes}
 use Rattle.rules.specs.declared.Judged.{Judged}
 use Rattle.rules.specs.declared.Judged.the-variants.{Fine, Refused}
-use Rattle.files.specs.Decimal.{decimal, countsText}
+use Rattle.scan.specs.Decimal.{decimal}
+use Rattle.files.specs.Decimal.{countsText}
 use Rattle.files.specs.Refusals.{refusalLine}
 use Rattle.commands.specs.declared.Fault.{Fault}
 use Rattle.commands.specs.declared.Fault.the-variants.{LongLine, EmptyLine, ControlByte, EmptyWord, NoCommand, WordCount, NoRow, LongRow, Misspelt, BeyondType, FewerLent}

@@ -6,7 +6,8 @@ use lib.Dec.{ltb}
 use lib.IntN.{ℤ}
 use lib.ListN.{length, take}
 use Rattle.scan.specs.Ascii.{bytes}
-use Rattle.files.specs.Decimal.{decimal, whole, spaced}
+use Rattle.scan.specs.Decimal.{decimal, whole}
+use Rattle.files.specs.Decimal.{spaced}
 use Rattle.commands.specs.declared.Fault.the-variants.{FewerLent}
 use Rattle.commands.specs.declared.Shown.{Shown}
 use Rattle.commands.specs.declared.Shown.the-variants.{All, First}

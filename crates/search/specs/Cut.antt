@@ -16,7 +16,8 @@ use Rattle.rules.specs.declared.Refusal.the-variants.{BadArc, BadCoordinate, Ba
 use Rattle.geometry.specs.Box.{wellShapedB}
 use Rattle.geometry.specs.Row.{goodPlace, goodBox, boxOf, coordinate}
 use Rattle.walks.specs.Rows.{Rows, at, network}
-use Rattle.search.specs.Judge.{arcs, arcRowsLong, boxRowsLong}
+use Rattle.judging.specs.Judge.{arcs, arcRowsLong}
+use Rattle.search.specs.Judge.{boxRowsLong}
 use Rattle.search.specs.Alike.{Alike}
 
 -- the arc rows cut to m places

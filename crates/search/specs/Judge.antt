@@ -10,39 +10,16 @@ use Rattle.rules.specs.Judging.{inTurn, passes, each}
 use Rattle.rules.specs.declared.Judged.{Judged}
 use Rattle.rules.specs.declared.Refusal.the-variants.{RowTooShort, BeyondLimits, BadArc, BadCoordinate, BadBox, NotInNetwork}
 use Rattle.geometry.specs.Row.{goodPlace, goodBox}
-use Rattle.walks.specs.Rows.{Rows, at}
+use Rattle.walks.specs.Rows.{Rows}
+use Rattle.judging.specs.Judge.{sizes, arcRowsLong, arcs}
 
--- n from 1 to 512, m from 0 to 2,048
-abbrev pub sizes : ℕ → ℕ → Judged
-sizes n m = passes (leb 1 n && leb n mostNodes && leb m mostArcs) (BeyondLimits 0)
-
--- the arc rows have m places; the coordinate rows n, and the box row 4m
-abbrev pub arcRowsLong : ℕ → Rows → Bool
-arcRowsLong m R = leb m (length (R .tails)) && leb m (length (R .heads)) && leb m (length (R .weights))
-
+-- the coordinate rows have n places, and the box row 4m
 abbrev pub boxRowsLong : ℕ → ℕ → List ℤ → List ℤ → List ℤ → Bool
 boxRowsLong n m x y boxes = leb n (length x) && leb n (length y) && leb (4 * m) (length boxes)
-
--- an arc's ends are nodes, and its weight is within the limit
-abbrev pub goodArc : ℕ → ℕ → ℕ → ℕ → Bool
-goodArc n tail head weight = leb 1 tail && leb tail n && leb 1 head && leb head n && leb weight mostWeight
-
-abbrev pub arcs : ℕ → ℕ → Rows → Judged
-arcs n m R = each (λ e. goodArc n (at (R .tails) e) (at (R .heads) e) (at (R .weights) e)) BadArc m
 
 -- source and target are nodes
 abbrev pub ends : ℕ → ℕ → ℕ → Judged
 ends n s t = passes (leb 1 s && leb s n && leb 1 t && leb t n) NotInNetwork
-
--- 5, 2, 8; `others` tells whether the other rows that are lent are long enough
-unfoldable pub networkJudged : ℕ → ℕ → Rows → Bool → Judged
-networkJudged n m R others =
-    inTurn (
-    sizes n m
-    ∷ passes (arcRowsLong m R && others) RowTooShort
-    ∷ arcs n m R
-    ∷ []
-    )
 
 -- a search: 5, 2, 8, 11; the route row has `places` places
 unfoldable pub searchJudged : ℕ → ℕ → Rows → ℕ → ℕ → ℕ → Judged

@@ -23,8 +23,9 @@ use Rattle.settling.specs.Nearest.{better, leaderOf, nearestOf}
 use Rattle.settling.specs.Run.{afterPick, runOf}
 use Rattle.settling.specs.Trace.{fits, firstOf, arcFits, intoOf, afterInto, traceOf}
 use Rattle.settling.specs.LengthsTo.{onShortest}
-use Rattle.search.specs.Judge.{networkJudged, searchJudged, boxedJudged}
-use Rattle.search.specs.JudgeLaws.{network-fine}
+use Rattle.judging.specs.Judge.{networkJudged}
+use Rattle.search.specs.Judge.{searchJudged, boxedJudged}
+use Rattle.judging.specs.JudgeLaws.{network-fine}
 use Rattle.search.specs.Says.{SearchSays, BoxedSays}
 use Rattle.drawing.specs.Leads.{leadsAt, lengthsTo}
 use Rattle.drawing.specs.Grown.{grownIf, grownBy}

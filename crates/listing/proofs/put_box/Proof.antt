@@ -6,7 +6,7 @@ use Rattle.scan.specs.Ascii.{bytes}
 use Rattle.files.proofs.PageLaws.{puts-both, puts-same}
 use mir.Facts.{toZ-ofZ}
 use borrow.Author.Needs.{sfits-of}
-use Rattle.files.specs.Decimal.{whole}
+use Rattle.scan.specs.Decimal.{whole}
 use Rattle.listing.specs.Listing.{wholeField}
 use borrow.Author.Needs.{needs}
 use Rattle.listing.proofs.put_box.Statement.{statement}

@@ -6,7 +6,7 @@ use Rattle.scan.specs.Ascii.{bytes}
 use Rattle.files.proofs.PageLaws.{puts-both, puts-same}
 use mir.Syntax.{w32}
 use mir.Facts.{toZ-ofZ}
-use Rattle.files.specs.Decimal.{whole}
+use Rattle.scan.specs.Decimal.{whole}
 use borrow.Author.Needs.{needs}
 use Rattle.listing.proofs.put_number_field.Statement.{statement}
 use Rattle.listing.proofs.put_number_field.Tie as tie

@@ -2,9 +2,11 @@
 use mathlib.Core.Path.{_≡_, sym, _∙_}
 use borrow.Author.Needs.{needs}
 use Rattle.walks.specs.Rows.{rows}
-use Rattle.search.specs.Judge.{boxRowsLong, networkJudged}
-use Rattle.search.specs.JudgeLaws.{network-fine, long-boxes}
-use Rattle.search.proofs.Turns.{out, on}
+use Rattle.judging.specs.Judge.{networkJudged}
+use Rattle.search.specs.Judge.{boxRowsLong}
+use Rattle.judging.specs.JudgeLaws.{network-fine}
+use Rattle.search.specs.JudgeLaws.{long-boxes}
+use Rattle.judging.proofs.Turns.{out, on}
 use Rattle.boxwork.specs.JudgeLaws.{build-judged}
 use Rattle.boxwork.proofs.judge.judge_build.Statement.{statement}
 use Rattle.boxwork.proofs.judge.judge_build.Tie as tie

@@ -2,8 +2,7 @@
 use mathlib.Core.Path.{_∙_}
 use native.Mathlib.Omega.{arith}
 use borrow.Author.Needs.{needs}
-use Rattle.files.specs.Decimal.{decimal}
-use Rattle.files.proofs.DecimalLaws.{digits-spelt, few-digits}
+use Rattle.files.proofs.DecimalLaws.{digits-decimal, few-digits}
 use Rattle.files.proofs.page.put_decimal.Statement.{statement}
 use Rattle.files.proofs.page.put_decimal.Tie as tie
 
@@ -14,12 +13,11 @@ put-requires c κs =
     omega (arith, d .0 .1)
 
 returns : tie.Need-returns
-unfolding decimal
 returns c =
     let p = c .put .ensures in
     let d = c .before .before .before .decimal .ensures in
     let few = few-digits _ _ (c .before .before .before .before .before .fits .n .fits) (d .1 .0) in
-    (rw (d .1 .1 ∙ digits-spelt _ 20 _ few (d .1 .0)) at p, omega (arith, p .end, d .0 .1, few))
+    (rw (d .1 .1 ∙ digits-decimal _ _ (d .1 .0)) at p, omega (arith, p .end, d .0 .1, few))
 
 pub put-decimal-spec : {M : Type 1} → statement M
 put-decimal-spec =

@@ -5,7 +5,8 @@ use lib.ListN.{length, take}
 use lib.Seq.{take-all}
 use borrow.Author.Needs.{needs}
 use Rattle.files.specs.Page.{Puts}
-use Rattle.files.specs.Decimal.{decimal, spaced, countsText}
+use Rattle.scan.specs.Decimal.{decimal}
+use Rattle.files.specs.Decimal.{spaced, countsText}
 use Rattle.files.proofs.PageLaws.{puts-none}
 use Rattle.files.proofs.RowLaws.{puts-next}
 use Rattle.replies.proofs.showing.put_counts.Statement.{statement}

@@ -8,7 +8,8 @@ use lib.Seq.{take-all}
 use mir.Facts.{toZ-ofZ}
 use borrow.Author.Needs.{needs, sfits-of}
 use Rattle.files.specs.Page.{Puts}
-use Rattle.files.specs.Decimal.{whole, spaced, numbersText}
+use Rattle.scan.specs.Decimal.{whole}
+use Rattle.files.specs.Decimal.{spaced, numbersText}
 use Rattle.files.proofs.PageLaws.{puts-same, puts-both, puts-none}
 use Rattle.files.proofs.RowLaws.{puts-next}
 use Rattle.replies.proofs.showing.put_numbers.Statement.{statement}

@@ -4,7 +4,7 @@ use lib.Seq.{length-take-le}
 use native.Mathlib.Omega.{arith}
 use borrow.Author.Needs.{needs}
 use Rattle.scan.specs.Ascii.{bytes}
-use Rattle.files.specs.Decimal.{whole}
+use Rattle.scan.specs.Decimal.{whole}
 use Rattle.files.proofs.PageLaws.{puts-both}
 use Rattle.replies.proofs.ShowingLaws.{fewer, enough}
 use Rattle.replies.proofs.showing.show_numbers.Statement.{statement}

@@ -8,9 +8,11 @@ use lib.Dec.{leb}
 use Rattle.rules.specs.declared.Judged.the-variants.{Fine}
 use Rattle.settling.specs.Choice.{and-true}
 use Rattle.walks.specs.Rows.{rows}
-use Rattle.search.specs.Judge.{boxRowsLong, networkJudged}
-use Rattle.search.specs.JudgeLaws.{boxed-judged, network-fine, long-boxes}
-use Rattle.search.proofs.Turns.{out, on}
+use Rattle.judging.specs.Judge.{networkJudged}
+use Rattle.search.specs.Judge.{boxRowsLong}
+use Rattle.judging.specs.JudgeLaws.{network-fine}
+use Rattle.search.specs.JudgeLaws.{boxed-judged, long-boxes}
+use Rattle.judging.proofs.Turns.{out, on}
 use Rattle.search.proofs.judge.judge_boxed.Statement.{statement}
 use Rattle.search.proofs.judge.judge_boxed.Tie as tie
 

@@ -2,7 +2,7 @@
 use mathlib.Core.Path.{sym, _∙_}
 use borrow.Author.Needs.{needs}
 use Rattle.search.specs.JudgeLaws.{search-judged}
-use Rattle.search.proofs.Turns.{out, on}
+use Rattle.judging.proofs.Turns.{out, on}
 use Rattle.search.proofs.judge.judge_search.Statement.{statement}
 use Rattle.search.proofs.judge.judge_search.Tie as tie
 

@@ -1,7 +1,7 @@
--- `search::judge::unless` meets its contract. Assumes nothing.
+-- `judging::unless` meets its contract. Assumes nothing.
 use borrow.Author.Needs.{needs}
-use Rattle.search.proofs.judge.unless.Statement.{statement}
-use Rattle.search.proofs.judge.unless.Tie as tie
+use Rattle.judging.proofs.unless.Statement.{statement}
+use Rattle.judging.proofs.unless.Tie as tie
 
 returns-2 : tie.Need-returns-2
 returns-2 c = rw (c .if1 .left)

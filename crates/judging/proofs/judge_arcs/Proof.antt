@@ -1,4 +1,4 @@
--- `search::judge::judge_arcs` meets its contract. The loop's invariant: the arcs up to i are good. Assumes nothing.
+-- `judging::judge_arcs` meets its contract. The loop's invariant: the arcs up to i are good. Assumes nothing.
 use Prim.Native.Nat.{ℕ, _+_, _-_, _≤_}
 use mathlib.Core.Path.{_≡_, sym, _∙_}
 use mathlib.Core.Bool.{Bool}
@@ -8,9 +8,9 @@ use lib.ListN.{getD}
 use Rattle.rules.specs.Judging.{each-none, each-on, each-out}
 use Rattle.rules.specs.declared.Judged.the-variants.{Fine}
 use Rattle.walks.specs.Rows.{Rows, rows, at}
-use Rattle.search.specs.Judge.{goodArc, arcs}
-use Rattle.search.proofs.judge.judge_arcs.Statement.{statement}
-use Rattle.search.proofs.judge.judge_arcs.Tie as tie
+use Rattle.judging.specs.Judge.{goodArc, arcs}
+use Rattle.judging.proofs.judge_arcs.Statement.{statement}
+use Rattle.judging.proofs.judge_arcs.Tie as tie
 
 -- the test at place i is that of arc i + 1
 at-place : (n : ℕ) (R : Rows) (i : ℕ) {b : Bool}

@@ -1,17 +1,16 @@
--- `search::judge::judge_network` meets its contract: each refusal is handed on as it came. Assumes nothing.
+-- `judging::judge_network` meets its contract: each refusal is handed on as it came. Assumes nothing.
 use mathlib.Core.Path.{_≡_, sym, _∙_}
 use mathlib.Core.Bool.{Bool, _&&_}
 use borrow.Author.Needs.{needs}
 use Rattle.rules.specs.Judging.{passes}
 use Rattle.rules.specs.declared.Judged.{Judged}
 use Rattle.rules.specs.declared.Refusal.the-variants.{RowTooShort}
-use Rattle.settling.specs.Choice.{and-true}
 use Rattle.walks.specs.Rows.{rows}
-use Rattle.search.specs.Judge.{arcRowsLong, networkJudged}
-use Rattle.search.specs.JudgeLaws.{last, passed, long-arcs}
-use Rattle.search.proofs.Turns.{out, on}
-use Rattle.search.proofs.judge.judge_network.Statement.{statement}
-use Rattle.search.proofs.judge.judge_network.Tie as tie
+use Rattle.judging.specs.Judge.{arcRowsLong, networkJudged}
+use Rattle.judging.specs.JudgeLaws.{and-true, last, passed, long-arcs}
+use Rattle.judging.proofs.Turns.{out, on}
+use Rattle.judging.proofs.judge_network.Statement.{statement}
+use Rattle.judging.proofs.judge_network.Tie as tie
 
 -- the rows are judged by the test that the code asked
 asked : {j : Judged} {long arcs : Bool} (others : Bool) → j ≡ passes (long && others) RowTooShort → long ≡ arcs → j ≡ passes (arcs && others) RowTooShort
