@@ -2,3 +2,4 @@ pub mod NumberLaws
 pub mod WordLaws
 mod FaultLaws
 mod CommandLaws
+mod TableLaws

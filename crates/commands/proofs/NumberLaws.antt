@@ -13,7 +13,7 @@ use Rattle.scan.specs.declared.numbers.Natural.{Natural}
 use Rattle.scan.specs.declared.numbers.Natural.the-variants.{Number, NoNumber}
 use Rattle.scan.specs.declared.numbers.Integer.{Integer}
 use Rattle.scan.specs.declared.numbers.Integer.the-variants.{Whole, NoWhole}
-use Rattle.commands.specs.Numbers.{countOf, signedOf}
+use Rattle.commands.specs.Numbers.{countTo, signedOf}
 use Rattle.commands.specs.declared.Fault.the-variants.{BeyondType}
 use Rattle.commands.specs.declared.numbers.Count.the-variants as count
 use Rattle.commands.specs.declared.numbers.Signed.the-variants as signed
@@ -27,10 +27,10 @@ within most top h is not v =
       | no k ↦ rw (lt-leb (min v top) most (omega arith), lt-leb v most (omega arith))
     ]
 
-pub count-held : (n m : Natural) → n ≡ heldNatural m → countOf n ≡ countOf m
-unfolding heldNatural countOf
-count-held n (Number v) e = rw e (within 4294967295 10000000000 (omega arith) count.Is (count.Not BeyondType) v)
-count-held n NoNumber e = rw e
+pub count-held : (most : ℕ) (n m : Natural) → most < 4294967296 → n ≡ heldNatural m → countTo most n ≡ countTo most m
+unfolding heldNatural countTo
+count-held most n (Number v) h e = rw e (within most 10000000000 (omega arith) count.Is (count.Not BeyondType) v)
+count-held most n NoNumber h e = rw e
 
 pub signed-held : (n m : Integer) → n ≡ heldInteger m → signedOf n ≡ signedOf m
 unfolding heldInteger signedOf
@@ -40,13 +40,13 @@ signed-held n NoWhole e = rw e
 
 -- ---- a number by the tests of its limits
 
-pub count-high : (v : ℕ) → 4294967295 < v → count.Not BeyondType ≡ countOf (Number v)
-unfolding countOf
-count-high v h = rw (lt-leb v 4294967295 h)
+pub count-high : (most v : ℕ) → most < v → count.Not BeyondType ≡ countTo most (Number v)
+unfolding countTo
+count-high most v h = rw (lt-leb v most h)
 
-pub count-in : (v : ℕ) → v ≤ 4294967295 → count.Is v ≡ countOf (Number v)
-unfolding countOf
-count-in v h = rw (le-leb v 4294967295 h)
+pub count-in : (most v : ℕ) → v ≤ most → count.Is v ≡ countTo most (Number v)
+unfolding countTo
+count-in most v h = rw (le-leb v most h)
 
 pub signed-low : (z : ℤ) → ltZ z (negsuc 2147483647) ≡ true → signed.Not BeyondType ≡ signedOf (Whole z)
 unfolding signedOf

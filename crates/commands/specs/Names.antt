@@ -1,4 +1,4 @@
--- The names of commands and of rows. Assumes nothing: these are definitions.
+-- The names of commands. Assumes nothing: these are definitions.
 use Prim.Native.Nat.{ℕ}
 use Prim.Native.String.{String}
 use mathlib.Core.List.{List}
@@ -8,10 +8,6 @@ use Rattle.scan.specs.Ascii.{bytes}
 use Rattle.scan.specs.Pieces.{sameBytes}
 use Rattle.commands.specs.declared.verbs.Verb.{Verb}
 use Rattle.commands.specs.declared.verbs.Verb.the-variants as verb
-use Rattle.commands.specs.declared.verbs.Row.{Row}
-use Rattle.commands.specs.declared.verbs.Row.the-variants as row
-use Rattle.commands.specs.declared.verbs.RowName.{RowName}
-use Rattle.commands.specs.declared.verbs.RowName.the-variants.{Known, Unknown}
 
 infixl 20 _is_
 abbrev pub _is_ : List ℕ → String → Bool
@@ -51,35 +47,3 @@ takesWords verb.Boxed words = eqb words 3
 takesWords verb.Fresh words = eqb words 1
 takesWords verb.Help words = eqb words 1
 takesWords verb.NoVerb words = true
-
--- the row that a word names
-unfoldable pub rowOf : List ℕ → RowName
-rowOf word =
-    cond (word is "tails") (Known row.Tails)
-    (cond (word is "heads") (Known row.Heads)
-    (cond (word is "weights") (Known row.Weights)
-    (cond (word is "x") (Known row.X)
-    (cond (word is "y") (Known row.Y)
-    (cond (word is "boxes") (Known row.Boxes)
-    (cond (word is "route") (Known row.Route)
-    Unknown))))))
-
--- how many places the console has for a row
-abbrev pub placesOf : Row → ℕ
-placesOf row.Tails = 4096
-placesOf row.Heads = 4096
-placesOf row.Weights = 4096
-placesOf row.X = 1024
-placesOf row.Y = 1024
-placesOf row.Boxes = 16384
-placesOf row.Route = 1024
-
--- whether a row's numbers may be negative
-abbrev pub signedRow : Row → Bool
-signedRow row.Tails = false
-signedRow row.Heads = false
-signedRow row.Weights = false
-signedRow row.X = true
-signedRow row.Y = true
-signedRow row.Boxes = true
-signedRow row.Route = false

@@ -2,6 +2,7 @@
 pub mod arguments;
 pub mod faults;
 pub mod numbers;
+pub mod rows;
 pub mod verbs;
 pub mod words;
 
@@ -10,7 +11,7 @@ ghost use Rattle.commands.specs.Commands.{commandOf};
 use crate::arguments::ask;
 use crate::faults::Judged;
 use crate::faults::judge_line;
-use crate::verbs::Row;
+use crate::rows::Row;
 use crate::verbs::takes;
 use crate::verbs::verb_of;
 use crate::words::after_word;

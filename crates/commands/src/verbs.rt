@@ -1,9 +1,8 @@
-// The names of commands and of rows.
+// The names of commands.
 ghost use mathlib.Core.Path.{_≡_};
 ghost use mathlib.Core.Bool.{cond};
 ghost use Rattle.scan.specs.Pieces.{sameBytes};
-ghost use Rattle.commands.specs.Names.{verbOf, takesWords, rowOf, placesOf, signedRow};
-ghost use Rattle.commands.specs.declared.verbs.RowName.the-variants.{Known};
+ghost use Rattle.commands.specs.Names.{verbOf, takesWords};
 use scan::pieces::same_bytes;
 
 // The commands by their first words.
@@ -22,54 +21,6 @@ pub enum Verb {
     Fresh,
     Help,
     NoVerb,
-}
-
-// The rows of the console.
-pub enum Row {
-    Tails,
-    Heads,
-    Weights,
-    X,
-    Y,
-    Boxes,
-    Route,
-}
-
-pub enum RowName {
-    Known(Row),
-    Unknown,
-}
-
-impl Row {
-    // How many places the console has for a row.
-    pub fn places(self) -> usize
-        ensures { λ r. ⌜ r ≡ placesOf self ⌝ }
-    {
-        match self {
-            Row::Tails => 4096,
-            Row::Heads => 4096,
-            Row::Weights => 4096,
-            Row::X => 1024,
-            Row::Y => 1024,
-            Row::Boxes => 16384,
-            Row::Route => 1024,
-        }
-    }
-
-    // Whether its numbers may be negative.
-    pub fn is_signed(self) -> bool
-        ensures { λ r. ⌜ r ≡ signedRow self ⌝ }
-    {
-        match self {
-            Row::Tails => false,
-            Row::Heads => false,
-            Row::Weights => false,
-            Row::X => true,
-            Row::Y => true,
-            Row::Boxes => true,
-            Row::Route => false,
-        }
-    }
 }
 
 // The verb where the word is its name, or else the other.
@@ -122,28 +73,4 @@ pub fn takes(verb: Verb, words: usize) -> bool
         Verb::Help => words == 1,
         Verb::NoVerb => true,
     }
-}
-
-// The row where the word is its name, or else the other.
-fn row_named(word: &[u8], name: &[u8], row: Row, other: RowName) -> RowName
-    ensures { λ r. ⌜ r ≡ cond (sameBytes (now (word .entry)) (now (name .entry))) (Known row) other ⌝ }
-{
-    if same_bytes(word, name) {
-        return RowName::Known(row);
-    }
-    other
-}
-
-// The row that a word names.
-pub fn row_of(word: &[u8]) -> RowName
-    ensures { λ r. ⌜ r ≡ rowOf (now (word .entry)) ⌝ }
-{
-    let mut row = RowName::Unknown;
-    row = row_named(word, b"route", Row::Route, row);
-    row = row_named(word, b"boxes", Row::Boxes, row);
-    row = row_named(word, b"y", Row::Y, row);
-    row = row_named(word, b"x", Row::X, row);
-    row = row_named(word, b"weights", Row::Weights, row);
-    row = row_named(word, b"heads", Row::Heads, row);
-    row_named(word, b"tails", Row::Tails, row)
 }

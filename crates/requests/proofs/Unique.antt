@@ -14,7 +14,8 @@ use Rattle.search.specs.Paper.{paper-injective}
 use Rattle.search.specs.SaysLaws.{says-unique}
 use Rattle.boxwork.specs.SaysLaws.{build-unique, check-unique, update-unique}
 use Rattle.replies.specs.Replies.{judgedLine}
-use Rattle.requests.specs.Desk.{Desk, withBoxes, withRoute}
+use Rattle.requests.specs.Desk.{Desk, put}
+use Rattle.commands.specs.declared.rows.Row.the-variants.{Boxes, Route}
 use Rattle.requests.specs.Requests.{graphLine, graphSizes, placesLine, Makes, ReadsGraph, ReadsPlaces, Meets}
 use Rattle.requests.specs.declared.Sizes.{Sizes}
 
@@ -23,17 +24,17 @@ use Rattle.requests.specs.declared.Sizes.{Sizes}
 pub makes-unique : {d : Desk} {c : Call} {reply reply′ : List ℕ} {after after′ : Desk} → Makes d c reply after → Makes d c reply′ after′ → (reply ≡ reply′) × (after ≡ after′)
 makes-unique {d} (Makes.build j s) (Makes.build j′ s′) =
     let same = build-unique s s′ in
-    (ap judgedLine (judged-injective j j′ (same .0)), ap (withBoxes d) (same .1))
+    (ap judgedLine (judged-injective j j′ (same .0)), ap (λ (l : List ℤ). put Boxes l d) (same .1))
 makes-unique (Makes.check j s) (Makes.check j′ s′) = (ap judgedLine (judged-injective j j′ (check-unique s s′)), refl)
 makes-unique (Makes.update j s) (Makes.update j′ s′) =
     let same = update-unique s s′ in
     (ap judgedLine (judged-injective j j′ (same .0)), rw (same .1, same .2))
 makes-unique {d} (Makes.search a s) (Makes.search a′ s′) =
     let same = says-unique s s′ in
-    (rw (paper-injective a a′ (same .0), same .1), ap (withRoute d) (same .1))
+    (rw (paper-injective a a′ (same .0), same .1), ap (λ (l : List ℕ). put Route l d) (same .1))
 makes-unique {d} (Makes.boxed a s) (Makes.boxed a′ s′) =
     let same = says-unique s s′ in
-    (rw (paper-injective a a′ (same .0), same .1), ap (withRoute d) (same .1))
+    (rw (paper-injective a a′ (same .0), same .1), ap (λ (l : List ℕ). put Route l d) (same .1))
 
 -- ---- the files
 

@@ -12,7 +12,8 @@ use Rattle.commands.specs.declared.Call.the-variants as call
 use Rattle.commands.specs.declared.Request.{Request}
 use Rattle.commands.specs.declared.Request.the-variants as request
 use Rattle.commands.specs.declared.Shown.{Shown}
-use Rattle.commands.specs.declared.verbs.Row.{Row}
+use Rattle.commands.specs.declared.rows.Row.{Row}
+use Rattle.commands.specs.declared.rows.Row.the-variants.{Tails, Heads, Weights, X, Y, Boxes, Route}
 use Rattle.dimacs.specs.Promise.{GrPromise, CoPromise}
 use Rattle.dimacs.specs.declared.GrReply.{GrReply}
 use Rattle.dimacs.specs.declared.GrReply.the-variants as graph
@@ -24,27 +25,27 @@ use Rattle.search.specs.declared.Answer.{Answer}
 use Rattle.boxwork.specs.Says.{BuildSays, CheckSays, UpdateSays}
 use Rattle.replies.specs.Replies.{okLine, helpLine, judgedLine, sizesLine, answerLine}
 use Rattle.replies.specs.Showing.{showLine}
-use Rattle.requests.specs.Desk.{Desk, arcs, withSizes, withArcs, withPlaces, withBoxes, withWeights, withRoute}
+use Rattle.requests.specs.Desk.{Desk, row, put, arcs, withSizes}
 use Rattle.requests.specs.declared.Sizes.{Sizes}
 
 -- ---- the calls: what each leaves, and its answer in a line
 
 pub data Makes (d : Desk) : Call → List ℕ → Desk → Type 0 where
   build : (j : Judged) {boxes : List ℤ}
-      → BuildSays (d .sizes .n) (d .sizes .m) (arcs d) (d .x) (d .y) (d .boxes) (judgedReply j) boxes
-      → Makes d call.Build (judgedLine j) (withBoxes d boxes)
+      → BuildSays (d .sizes .n) (d .sizes .m) (arcs d) (row X d) (row Y d) (row Boxes d) (judgedReply j) boxes
+      → Makes d call.Build (judgedLine j) (put Boxes boxes d)
   check : (j : Judged)
-      → CheckSays (d .sizes .n) (d .sizes .m) (arcs d) (d .x) (d .y) (d .boxes) (judgedReply j)
+      → CheckSays (d .sizes .n) (d .sizes .m) (arcs d) (row X d) (row Y d) (row Boxes d) (judgedReply j)
       → Makes d call.Check (judgedLine j) d
   update : {arc weight : ℕ} (j : Judged) {weights : List ℕ} {boxes : List ℤ}
-      → UpdateSays (d .sizes .n) (d .sizes .m) (arcs d) (d .x) (d .y) (d .boxes) arc weight (judgedReply j) weights boxes
-      → Makes d (call.Update arc weight) (judgedLine j) (withBoxes (withWeights d weights) boxes)
+      → UpdateSays (d .sizes .n) (d .sizes .m) (arcs d) (row X d) (row Y d) (row Boxes d) arc weight (judgedReply j) weights boxes
+      → Makes d (call.Update arc weight) (judgedLine j) (put Boxes boxes (put Weights weights d))
   search : {s t : ℕ} (a : Answer) {route : List ℕ}
-      → SearchSays (d .sizes .n) (d .sizes .m) (arcs d) s t (d .route) (paper a) route
-      → Makes d (call.Search s t) (answerLine a route) (withRoute d route)
+      → SearchSays (d .sizes .n) (d .sizes .m) (arcs d) s t (row Route d) (paper a) route
+      → Makes d (call.Search s t) (answerLine a route) (put Route route d)
   boxed : {s t : ℕ} (a : Answer) {route : List ℕ}
-      → BoxedSays (d .sizes .n) (d .sizes .m) (arcs d) (d .x) (d .y) (d .boxes) s t (d .route) (paper a) route
-      → Makes d (call.Boxed s t) (answerLine a route) (withRoute d route)
+      → BoxedSays (d .sizes .n) (d .sizes .m) (arcs d) (row X d) (row Y d) (row Boxes d) s t (row Route d) (paper a) route
+      → Makes d (call.Boxed s t) (answerLine a route) (put Route route d)
 
 -- ---- the files: `gr` and `co`
 
@@ -82,13 +83,13 @@ pub data ReadsPlaces (held : Held) (n : ℕ) (x y : List ℤ) : List ℕ → Lis
 pub data Meets (held : Held) (d : Desk) : Request → List ℕ → Desk → Type 0 where
   set-n : {v : ℕ} → Meets held d (request.SetN v) okLine (withSizes d (record { n = v; m = d .sizes .m }))
   set-m : {v : ℕ} → Meets held d (request.SetM v) okLine (withSizes d (record { n = d .sizes .n; m = v }))
-  show : {row : Row} {shown : Shown}
-      → Meets held d (request.Show row shown) (showLine row shown (d .tails) (d .heads) (d .weights) (d .x) (d .y) (d .boxes) (d .route)) d
+  show : {r : Row} {shown : Shown}
+      → Meets held d (request.Show r shown) (showLine r shown (d .lent) (d .all)) d
   gr : {reply : List ℕ} {sizes : Sizes} {tails heads weights : List ℕ}
-      → ReadsGraph held (d .sizes) (d .tails) (d .heads) (d .weights) reply sizes tails heads weights
-      → Meets held d request.ReadGr reply (withSizes (withArcs d tails heads weights) sizes)
+      → ReadsGraph held (d .sizes) (row Tails d) (row Heads d) (row Weights d) reply sizes tails heads weights
+      → Meets held d request.ReadGr reply (withSizes (put Weights weights (put Heads heads (put Tails tails d))) sizes)
   co : {reply : List ℕ} {x y : List ℤ}
-      → ReadsPlaces held (d .sizes .n) (d .x) (d .y) reply x y
-      → Meets held d request.ReadCo reply (withPlaces d x y)
+      → ReadsPlaces held (d .sizes .n) (row X d) (row Y d) reply x y
+      → Meets held d request.ReadCo reply (put Y y (put X x d))
   called : {c : Call} {reply : List ℕ} {after : Desk} → Makes d c reply after → Meets held d (request.Call c) reply after
   help : Meets held d request.Help helpLine d

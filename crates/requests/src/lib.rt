@@ -4,14 +4,15 @@ pub mod texts;
 
 ghost use Prim.Native.Nat.{_≤_};
 ghost use Rattle.files.specs.Page.{Replied};
-ghost use Rattle.replies.specs.Rows.{Short};
+ghost use Rattle.lending.specs.Stores.{stores, Full};
 ghost use Rattle.requests.specs.Desk.{desk};
 ghost use Rattle.requests.specs.Requests.{Meets};
 use crate::calls::make;
-use crate::texts::read_graph;
-use crate::texts::read_places;
+use crate::texts::graph;
+use crate::texts::places;
 use commands::Request;
 use files::page::PAGE;
+use lending::rows::Lent;
 use replies::showing::show_row;
 use replies::words::put_help;
 use replies::words::put_ok;
@@ -34,16 +35,13 @@ pub fn obey(
     line: &[u8],
     request: Request,
     sizes: Sizes,
-    tails: &mut [u32],
-    heads: &mut [u32],
-    weights: &mut [u32],
-    x: &mut [i32],
-    y: &mut [i32],
-    boxes: &mut [i32],
-    route: &mut [u32],
+    lent: Lent,
+    counts: &mut [u32],
+    numbers: &mut [i32],
+    bytes: &mut [u8],
 ) -> Done
-    requires { ⌜ Short (now tails) (now heads) (now weights) (now x) (now y) (now boxes) (now route) ⌝ }
-    ensures { λ r. ⌜ Replied (λ held reply. Meets held (desk sizes (now (tails .entry)) (now (heads .entry)) (now (weights .entry)) (now (x .entry)) (now (y .entry)) (now (boxes .entry)) (now (route .entry))) request reply (desk (r .sizes) (now (tails .exit)) (now (heads .exit)) (now (weights .exit)) (now (x .exit)) (now (y .exit)) (now (boxes .exit)) (now (route .exit)))) (now (page .entry)) (r .end) (now (page .exit)) ⌝ }
+    requires { ⌜ Full (stores (now counts) (now numbers) (now bytes)) ⌝ }
+    ensures { λ r. ⌜ Replied (λ held reply. Meets held (desk sizes lent (now (counts .entry)) (now (numbers .entry)) (now (bytes .entry))) request reply (desk (r .sizes) lent (now (counts .exit)) (now (numbers .exit)) (now (bytes .exit)))) (now (page .entry)) (r .end) (now (page .exit)) ⌝ }
     ensures { λ r. ⌜ r .end ≤ 368640 ⌝ }
 {
     match request {
@@ -60,20 +58,20 @@ pub fn obey(
             };
         }
         Request::Show(row, shown) => {
-            let end = show_row(page, row, shown, tails, heads, weights, x, y, boxes, route);
+            let end = show_row(page, row, shown, lent, counts, numbers, bytes);
             return Done { sizes, end };
         }
         Request::ReadGr => {
-            return read_graph(page, line, sizes, tails, heads, weights);
+            return graph(page, line, sizes, lent, counts, numbers, bytes);
         }
         Request::ReadCo => {
             return Done {
                 sizes,
-                end: read_places(page, line, sizes.n, x, y),
+                end: places(page, line, sizes, lent, counts, numbers, bytes),
             };
         }
         Request::Call(call) => {
-            let end = make(page, call, sizes, tails, heads, weights, x, y, boxes, route);
+            let end = make(page, call, sizes, lent, counts, numbers, bytes);
             return Done { sizes, end };
         }
         Request::Help => {

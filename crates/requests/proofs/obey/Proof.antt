@@ -9,31 +9,35 @@ use Rattle.requests.proofs.obey.Statement.{statement}
 use Rattle.requests.proofs.obey.Tie as tie
 
 returns : tie.Need-returns
-returns c = (record { held = unread; reply = okLine; says = meets-case (c .before .before .before .request .given .1) Meets.set-n; puts = c .put-ok .ensures .0 }, omega arith)
+returns c =
+    (record { held = unread; reply = okLine; says = meets-case (c .before .before .before .request .given .1) Meets.set-n; puts = c .put-ok .ensures .0 }, omega arith)
 
 returns-2 : tie.Need-returns-2
-returns-2 c = (record { held = unread; reply = okLine; says = meets-case (c .before .before .before .request2 .given .1) Meets.set-m; puts = c .put-ok2 .ensures .0 }, omega arith)
+returns-2 c =
+    (record { held = unread; reply = okLine; says = meets-case (c .before .before .before .request2 .given .1) Meets.set-m; puts = c .put-ok2 .ensures .0 }, omega arith)
 
 returns-3 : tie.Need-returns-3
-returns-3 c = (record { held = unread; reply = _; says = meets-case (c .before .before .before .before .before .before .before .before .before .before .request3 .given .1) Meets.show; puts = c .show-row .ensures .0 }, omega arith)
+returns-3 c =
+    (record { held = unread; reply = _; says = meets-case (c .before .before .before .before .before .before .request3 .given .1) Meets.show; puts = c .show-row .ensures .0 }, omega arith)
 
 returns-4 : tie.Need-returns-4
 returns-4 c =
-    let read = c .before .before .before .before .before .before .read-graph .ensures .0 in
-    (record { held = read .held; reply = read .reply; says = meets-case (c .before .before .before .before .before .before .before .before .before .before .before .enum-told .given .1) (Meets.gr (read .says)); puts = read .puts }, omega arith)
+    let met = c .before .before .graph .ensures .0 in
+    (record { held = met .held; reply = met .reply; says = meets-case (c .before .before .before .before .before .before .before .enum-told .given .1) (met .says); puts = met .puts }, omega arith)
 
 returns-5 : tie.Need-returns-5
 returns-5 c =
-    let read = c .before .before .read-places .ensures .0 in
-    (record { held = read .held; reply = read .reply; says = meets-case (c .before .before .before .before .before .before .enum-told2 .given .1) (Meets.co (read .says)); puts = read .puts }, omega arith)
+    let met = c .before .places .ensures .0 in
+    (record { held = met .held; reply = met .reply; says = meets-case (c .before .before .before .before .before .before .enum-told2 .given .1) (met .says); puts = met .puts }, omega arith)
 
 returns-6 : tie.Need-returns-6
 returns-6 c =
-    let made = c .before .before .before .before .before .make .ensures .0 in
-    (record { held = unread; reply = made .reply; says = meets-case (c .before .before .before .before .before .before .before .before .before .before .before .before .before .before .before .request4 .given .1) (Meets.called (made .says)); puts = made .puts }, omega arith)
+    let met = c .before .before .before .make .ensures .0 in
+    (record { held = unread; reply = met .reply; says = meets-case (c .before .before .before .before .before .before .before .before .before .request4 .given .1) (Meets.called (met .says)); puts = met .puts }, omega arith)
 
 returns-7 : tie.Need-returns-7
-returns-7 c = (record { held = unread; reply = helpLine; says = meets-case (c .before .before .enum-told3 .given .1) Meets.help; puts = c .put-help .ensures .0 }, omega arith)
+returns-7 c =
+    (record { held = unread; reply = helpLine; says = meets-case (c .before .before .enum-told3 .given .1) Meets.help; puts = c .put-help .ensures .0 }, omega arith)
 
 pub obey-spec : {M : Type 1} → statement M
 obey-spec =
@@ -43,15 +47,13 @@ obey-spec =
     returns
     (λ c. search needs) (λ c κs. search needs)
     returns-2
-    (λ c. search needs) (λ c κs. search needs) (λ c. search needs) (λ c. search needs) (λ c. search needs) (λ c. search needs)
-    (λ c. search needs) (λ c. search needs) (λ c. search needs)
+    (λ c. search needs) (λ c κs. search needs) (λ c. search needs) (λ c. search needs) (λ c. search needs)
     returns-3
     (λ c. search needs) (λ c κs. search needs) (λ c. search needs) (λ c. search needs) (λ c. search needs)
     returns-4
-    (λ c. search needs) (λ c κs. search needs) (λ c. search needs) (λ c. search needs)
+    (λ c. search needs) (λ c κs. search needs) (λ c. search needs) (λ c. search needs) (λ c. search needs)
     returns-5
-    (λ c. search needs) (λ c κs. search needs) (λ c. search needs) (λ c. search needs) (λ c. search needs) (λ c. search needs)
-    (λ c. search needs) (λ c. search needs) (λ c. search needs)
+    (λ c. search needs) (λ c κs. search needs) (λ c. search needs) (λ c. search needs) (λ c. search needs)
     returns-6
     (λ c. search needs) (λ c κs. search needs)
     returns-7)
