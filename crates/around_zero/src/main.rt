@@ -1,19 +1,18 @@
 // The functions of geometry on cases around zero and the limits: one line a case.
-use files::print;
 
 fn yes_or_no(b: bool) {
     if b {
-        print::text(b" yes");
+        printing::text(b" yes");
     } else {
-        print::text(b" no");
+        printing::text(b" no");
     }
 }
 
 // A number of a row, and a space.
 fn show_at(row: &[i32], at: usize) {
     if at < row.len() {
-        print::number(row[at]);
-        print::text(b" ");
+        printing::number(row[at]);
+        printing::text(b" ");
     }
 }
 
@@ -28,15 +27,15 @@ fn show(row: &[i32]) {
         show_at(row, 5);
         show_at(row, 6);
         show_at(row, 7);
-        print::number(row[8]);
-        print::text(b"\n");
+        printing::number(row[8]);
+        printing::text(b"\n");
     }
 }
 
 // Whether the first box of a row holds a place, the places beside its corners, and its corners.
 fn show_held(row: &[i32]) {
     if row.len() == 9 {
-        print::text(b"holds");
+        printing::text(b"holds");
         yes_or_no(geometry::holds(row, 1, 0, 0));
         yes_or_no(geometry::holds(row, 1, -9, -4));
         yes_or_no(geometry::holds(row, 1, -10, -4));
@@ -44,7 +43,7 @@ fn show_held(row: &[i32]) {
         yes_or_no(geometry::holds(row, 1, 2, 1));
         yes_or_no(geometry::holds(row, 1, 3, 1));
         yes_or_no(geometry::holds(row, 1, 2, 2));
-        print::text(b"\n");
+        printing::text(b"\n");
     }
 }
 
@@ -70,15 +69,15 @@ fn grow(arc: usize, x: i32, y: i32, x2: i32, y2: i32, x3: i32, y3: i32) {
 fn places(x1: i32, y1: i32, x2: i32, y2: i32) {
     let x = [x1, x2, 2000000];
     let y = [y1, y2, 2000000];
-    print::judged(geometry::judge_places(1, &x, &y));
-    print::judged(geometry::judge_places(2, &x, &y));
+    printing::judged(geometry::judge_places(1, &x, &y));
+    printing::judged(geometry::judge_places(2, &x, &y));
 }
 
 // Two boxes, of which the first is well shaped.
 fn shapes(left: i32, right: i32, low: i32, high: i32) {
     let row = [-1i32, 0, 0, 1, left, right, low, high, 2000000];
-    print::judged(geometry::judge_boxes(1, &row));
-    print::judged(geometry::judge_boxes(2, &row));
+    printing::judged(geometry::judge_boxes(1, &row));
+    printing::judged(geometry::judge_boxes(2, &row));
 }
 
 fn main() {

@@ -6,7 +6,7 @@ use native.Mathlib.Omega.{arith}
 use Rattle.rules.specs.Paper.{judged-injective}
 use Rattle.walks.specs.Rows.{Rows}
 use Rattle.files.specs.File.{Held}
-use Rattle.files.specs.Refusals.{placeLine}
+use Rattle.wording.specs.Refusals.{placeLine}
 use Rattle.dimacs.proofs.Unique.{read-gr-unique, read-co-unique}
 use Rattle.boxwork.specs.SaysLaws.{build-unique}
 use Rattle.boxes.specs.Prints.{PrintsPlaced, co-unread, co-refused, built, Prints, gr-unread, gr-refused, gr-read}

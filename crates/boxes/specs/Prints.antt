@@ -10,7 +10,7 @@ use Rattle.rules.specs.declared.Refusal.{Refusal}
 use Rattle.scan.specs.Ascii.{bytes}
 use Rattle.walks.specs.Rows.{Rows, rows}
 use Rattle.files.specs.File.{Held, text, unread}
-use Rattle.files.specs.Refusals.{placeLine}
+use Rattle.wording.specs.Refusals.{placeLine}
 use Rattle.listing.specs.Listing.{listing}
 use Rattle.dimacs.specs.Promise.{GrPromise, CoPromise}
 use Rattle.dimacs.specs.declared.GrReply.the-variants as graph

@@ -1,18 +1,18 @@
 // Reads `net.gr` and `net.co`, builds the boxes and prints one line per arc, or why it was refused.
 ghost use Prim.Native.Nat.{_≤_};
 ghost use Rattle.walks.specs.Rows.{rows};
-ghost use Rattle.files.specs.Page.{Puts, Replied};
+ghost use Rattle.pages.specs.Page.{Puts, Replied};
 ghost use Rattle.boxes.specs.Prints.{unreadLine, builtText, PrintsPlaced, Prints, Files};
 use dimacs::CoReply;
 use dimacs::GrReply;
-use files::page::PAGE;
-use files::page::put;
-use files::print::out;
-use files::reading::File;
-use files::reading::read_file;
-use files::refusals::put_place;
+use files::File;
+use files::read_file;
 use listing::put_listing;
+use pages::PAGE;
+use pages::put;
+use printing::out;
 use rules::Judged;
+use wording::put_place;
 
 // The line where a file cannot be read.
 fn put_unread(page: &mut [u8; PAGE]) -> usize

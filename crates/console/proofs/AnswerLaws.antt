@@ -5,7 +5,7 @@ use mathlib.Core.List.{List}
 use mathlib.Core.Bool.{Bool, false}
 use lib.ListN.{length, take, drop}
 use Rattle.files.specs.File.{Held}
-use Rattle.files.specs.Page.{Replied}
+use Rattle.pages.specs.Page.{Replied}
 use Rattle.commands.specs.Words.{wordsOf}
 use Rattle.commands.specs.declared.Command.{Command}
 use Rattle.commands.specs.declared.Command.the-variants.{Lend, Fresh}

@@ -6,7 +6,7 @@ use mathlib.Core.Bool.{Bool, true, false, _&&_}
 use lib.Dec.{eqb}
 use lib.ListN.{length, take, drop}
 use Rattle.files.specs.File.{Held}
-use Rattle.files.specs.Page.{Replied}
+use Rattle.pages.specs.Page.{Replied}
 use Rattle.commands.specs.Words.{wordsOf}
 use Rattle.commands.specs.declared.Fault.{Fault}
 use Rattle.commands.specs.declared.Request.{Request}

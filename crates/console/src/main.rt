@@ -12,8 +12,8 @@ use crate::state::start;
 use commands::rows::BYTES;
 use commands::rows::COUNTS;
 use commands::rows::NUMBERS;
-use files::page::PAGE;
-use files::print::out;
+use pages::PAGE;
+use printing::out;
 
 // How many turns are left: none once the input has ended.
 fn turns_left(ended: bool, turns: u64) -> u64

@@ -1,8 +1,8 @@
 -- What a file holds, and what reading it answers. Assumes nothing: these are definitions.
 use Prim.Native.Nat.{ℕ, _≤_}
 use mathlib.Core.List.{List}
-use Rattle.files.specs.declared.reading.File.{File}
-use Rattle.files.specs.declared.reading.File.the-variants.{Bytes, NoFile}
+use Rattle.files.specs.declared.File.{File}
+use Rattle.files.specs.declared.File.the-variants.{Bytes, NoFile}
 
 -- what a file holds: a text, or nothing where it cannot be read
 pub data Held : Type 0 where

@@ -6,9 +6,9 @@ use mathlib.Core.List.{List, _++_}
 use lib.ListN.{length, take}
 use borrow.Author.Tests.{lt-ltb, le-ltb}
 use Rattle.scan.specs.Ascii.{bytes}
-use Rattle.files.specs.Page.{Puts}
-use Rattle.files.specs.Decimal.{spaced}
-use Rattle.files.proofs.PageLaws.{puts-case, puts-if, puts-else}
+use Rattle.pages.specs.Page.{Puts}
+use Rattle.pages.specs.Spaced.{spaced}
+use Rattle.pages.proofs.PageLaws.{puts-case, puts-if, puts-else}
 use Rattle.commands.specs.declared.Fault.the-variants.{FewerLent}
 use Rattle.replies.specs.Replies.{faultLine}
 use Rattle.commands.specs.Rows.{Value, Lies, stretchOf, kindOf, nameOf}

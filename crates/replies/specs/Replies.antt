@@ -6,8 +6,8 @@ use Rattle.scan.specs.Ascii.{bytes}
 use Rattle.rules.specs.declared.Judged.{Judged}
 use Rattle.rules.specs.declared.Judged.the-variants.{Fine, Refused}
 use Rattle.scan.specs.Decimal.{decimal}
-use Rattle.files.specs.Decimal.{countsText}
-use Rattle.files.specs.Refusals.{refusalLine}
+use Rattle.pages.specs.Spaced.{countsText}
+use Rattle.wording.specs.Refusals.{refusalLine}
 use Rattle.commands.specs.declared.Fault.{Fault}
 use Rattle.commands.specs.declared.Fault.the-variants.{LongLine, EmptyLine, ControlByte, EmptyWord, NoCommand, WordCount, NoRow, LongRow, Misspelt, BeyondType, FewerLent}
 use Rattle.search.specs.declared.Answer.{Answer}

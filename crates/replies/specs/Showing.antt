@@ -6,7 +6,7 @@ use lib.Dec.{ltb}
 use lib.ListN.{length, take}
 use Rattle.scan.specs.Ascii.{bytes}
 use Rattle.scan.specs.Decimal.{decimal, whole}
-use Rattle.files.specs.Decimal.{spaced}
+use Rattle.pages.specs.Spaced.{spaced}
 use Rattle.commands.specs.declared.Fault.the-variants.{FewerLent}
 use Rattle.commands.specs.declared.Shown.{Shown}
 use Rattle.commands.specs.declared.Shown.the-variants.{All, First}

@@ -2,8 +2,8 @@
 ghost use Prim.Native.Nat.{_≤_};
 ghost use mathlib.Core.Path.{_≡_};
 ghost use lib.ListN.{length, take};
-ghost use Rattle.files.specs.Page.{Puts};
-ghost use Rattle.files.specs.Decimal.{countsText, numbersText, spaced};
+ghost use Rattle.pages.specs.Page.{Puts};
+ghost use Rattle.pages.specs.Spaced.{countsText, numbersText, spaced};
 ghost use Rattle.commands.specs.Rows.{stretchOf, kindOf, nameOf};
 ghost use Rattle.lending.specs.Stores.{stores, Full, lentAt, rowOn};
 ghost use Rattle.replies.specs.Showing.{howMany, textOf, showLine};
@@ -12,15 +12,15 @@ use commands::Fault;
 use commands::Shown;
 use commands::rows::Kind;
 use commands::rows::Row;
-use files::page::PAGE;
-use files::page::put;
-use files::page::put_after;
-use files::page::put_number;
 use lending::rows::Lent;
 use lending::rows::bytes_of;
 use lending::rows::counts_of;
 use lending::rows::lent_at;
 use lending::rows::numbers_of;
+use pages::PAGE;
+use pages::put;
+use pages::put_after;
+use pages::put_number;
 
 // The numbers of a row, each after a space.
 pub fn put_counts(page: &mut [u8; PAGE], start: usize, row: &[u32]) -> usize

@@ -6,7 +6,7 @@ use lib.IntN.{ℤ}
 use Rattle.rules.specs.Paper.{judgedReply}
 use Rattle.rules.specs.declared.Judged.{Judged}
 use Rattle.files.specs.File.{Held, text, unread}
-use Rattle.files.specs.Refusals.{refusalLine, noFileLine}
+use Rattle.wording.specs.Refusals.{refusalLine, noFileLine}
 use Rattle.commands.specs.declared.Call.{Call}
 use Rattle.commands.specs.declared.Call.the-variants as call
 use Rattle.commands.specs.declared.Request.{Request}

@@ -2,7 +2,7 @@
 ghost use Prim.Native.Nat.{_≤_};
 ghost use mathlib.Core.Path.{_≡_};
 ghost use Rattle.files.specs.File.{Held};
-ghost use Rattle.files.specs.Page.{Replied};
+ghost use Rattle.pages.specs.Page.{Replied};
 ghost use Rattle.commands.specs.Rows.{stretchOf};
 ghost use Rattle.commands.specs.declared.rows.Row.the-variants.{Weights, Boxes, Route};
 ghost use Rattle.commands.specs.declared.Call.the-variants.{Build, Check, Update, Search, Boxed};
@@ -12,7 +12,6 @@ ghost use Rattle.requests.specs.Requests.{Makes};
 use crate::Sizes;
 use commands::Call;
 use commands::rows::Row;
-use files::page::PAGE;
 use lending::rows::Lent;
 use lending::rows::counts_of;
 use lending::rows::fetch_counts;
@@ -20,6 +19,7 @@ use lending::rows::fetch_numbers;
 use lending::rows::give_counts;
 use lending::rows::give_numbers;
 use lending::rows::numbers_of;
+use pages::PAGE;
 use replies::answers::put_answer;
 use replies::words::put_judged;
 

@@ -3,7 +3,7 @@ pub mod calls;
 pub mod texts;
 
 ghost use Prim.Native.Nat.{_≤_};
-ghost use Rattle.files.specs.Page.{Replied};
+ghost use Rattle.pages.specs.Page.{Replied};
 ghost use Rattle.lending.specs.Stores.{stores, Full};
 ghost use Rattle.requests.specs.Desk.{desk};
 ghost use Rattle.requests.specs.Requests.{Meets};
@@ -11,8 +11,8 @@ use crate::calls::make;
 use crate::texts::graph;
 use crate::texts::places;
 use commands::Request;
-use files::page::PAGE;
 use lending::rows::Lent;
+use pages::PAGE;
 use replies::showing::show_row;
 use replies::words::put_help;
 use replies::words::put_ok;

@@ -1,7 +1,7 @@
 // `gr` and `co`: files are read into the lent rows.
 ghost use Prim.Native.Nat.{_≤_};
 ghost use mathlib.Core.Path.{_≡_};
-ghost use Rattle.files.specs.Page.{Puts, Replied};
+ghost use Rattle.pages.specs.Page.{Puts, Replied};
 ghost use Rattle.requests.specs.Requests.{graphLine, graphSizes, placesLine, ReadsGraph, ReadsPlaces, Meets};
 ghost use lib.ListN.{length};
 ghost use Rattle.commands.specs.Rows.{stretchOf};
@@ -15,18 +15,18 @@ use commands::rows::Row;
 use commands::words::after_word;
 use dimacs::CoReply;
 use dimacs::GrReply;
-use files::page::PAGE;
-use files::reading::File;
-use files::reading::read_file;
-use files::refusals::put_no_file;
-use files::refusals::put_refusal;
+use files::File;
+use files::read_file;
 use lending::rows::Lent;
 use lending::rows::fetch_counts;
 use lending::rows::fetch_numbers;
 use lending::rows::give_counts;
 use lending::rows::give_numbers;
+use pages::PAGE;
 use replies::answers::put_sizes;
 use replies::words::put_ok;
+use wording::put_no_file;
+use wording::put_refusal;
 
 // The reply to a graph file that was looked at, and the numbers from now on.
 fn graph_done(page: &mut [u8; PAGE], sizes: Sizes, reply: GrReply) -> Done

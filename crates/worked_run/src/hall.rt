@@ -3,7 +3,6 @@ use crate::show::boxed;
 use crate::show::plain;
 use crate::show::show_box;
 use crate::show::told;
-use files::print;
 
 fn show_boxes(boxes: &[i32]) {
     show_box(boxes, 0);
@@ -126,13 +125,13 @@ fn worked_through(
     y: &[i32],
     boxes: &mut [i32],
 ) {
-    print::text(b"build\n");
+    printing::text(b"build\n");
     built(tails, heads, weights, x, y, boxes);
-    print::text(b"search\n");
+    printing::text(b"search\n");
     searched(tails, heads, weights, x, y, boxes);
-    print::text(b"check\n");
+    printing::text(b"check\n");
     checked(tails, heads, weights, x, y, boxes);
-    print::text(b"update\n");
+    printing::text(b"update\n");
     updated(tails, heads, weights, x, y, boxes);
 }
 

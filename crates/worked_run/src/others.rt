@@ -3,17 +3,16 @@ use crate::show::boxed;
 use crate::show::plain;
 use crate::show::show_box;
 use crate::show::told;
-use files::print;
 
 // Two nodes, only arc 2 to 1.
 pub fn one_way() {
-    print::text(b"one way\n");
+    printing::text(b"one way\n");
     plain(2, 1, &[2u32], &[1u32], &[7u32], 1, 2);
 }
 
 // Arcs 1-2 and 2-1 of weight 0, 1-3 and 2-3 of weight 5.
 pub fn zeros() {
-    print::text(b"zeros\n");
+    printing::text(b"zeros\n");
     plain(
         3,
         4,
@@ -48,7 +47,7 @@ pub fn triangle() {
     let x = [0i32, 10, 10];
     let y = [0i32, 0, 10];
     let mut boxes = [7i32; 12];
-    print::text(b"triangle\n");
+    printing::text(b"triangle\n");
     told(boxwork::check(
         3,
         3,
@@ -97,7 +96,7 @@ pub fn behind() {
         5,
         5,
     ];
-    print::text(b"trees\n");
+    printing::text(b"trees\n");
     trees(&tails, &heads, &weights, &x, &y, &boxes);
 }
 
@@ -106,7 +105,7 @@ pub fn west() {
     let x = [-10i32, -20];
     let y = [-10i32, -5];
     let mut boxes = [0i32; 4];
-    print::text(b"west\n");
+    printing::text(b"west\n");
     told(boxwork::build(2, 1, &[1u32], &[2u32], &[1u32], &x, &y, &mut boxes));
     show_box(&boxes, 0);
 }

@@ -1,5 +1,4 @@
 // Printing answers, and the searches that the cases share.
-use files::print;
 use rules::Judged;
 use rules::Refusal;
 use search::Answer;
@@ -7,15 +6,15 @@ use search::Answer;
 // A space, and a number of a row.
 fn show_count(row: &[u32], at: usize) {
     if at < row.len() {
-        print::text(b" ");
-        print::count(row[at]);
+        printing::text(b" ");
+        printing::count(row[at]);
     }
 }
 
 fn show_number(row: &[i32], at: usize) {
     if at < row.len() {
-        print::text(b" ");
-        print::number(row[at]);
+        printing::text(b" ");
+        printing::number(row[at]);
     }
 }
 
@@ -27,49 +26,49 @@ fn show(answer: Answer, route: &[u32]) {
             arcs,
             settled,
         } => {
-            print::text(b"found ");
-            print::count(length);
-            print::text(b" ");
-            print::count(arcs);
-            print::text(b" ");
-            print::count(settled);
-            print::text(b" route");
+            printing::text(b"found ");
+            printing::count(length);
+            printing::text(b" ");
+            printing::count(arcs);
+            printing::text(b" ");
+            printing::count(settled);
+            printing::text(b" route");
             show_count(route, 0);
             show_count(route, 1);
             show_count(route, 2);
             show_count(route, 3);
-            print::text(b"\n");
+            printing::text(b"\n");
         }
-        Answer::Refused(r) => print::refused(r),
+        Answer::Refused(r) => printing::refused(r),
     }
 }
 
 // A judgement; of 13 both values.
 pub fn told(j: Judged) {
     let Judged::Refused(r) = j else {
-        print::text(b"fine\n");
+        printing::text(b"fine\n");
         return;
     };
     let Refusal::BoxMisses { arc, node } = r else {
-        print::refused(r);
+        printing::refused(r);
         return;
     };
-    print::text(b"refused 13 ");
-    print::count(arc);
-    print::text(b" ");
-    print::count(node);
-    print::text(b"\n");
+    printing::text(b"refused 13 ");
+    printing::count(arc);
+    printing::text(b" ");
+    printing::count(node);
+    printing::text(b"\n");
 }
 
 // The four numbers of a box that start at a place.
 pub fn show_box(boxes: &[i32], at: usize) {
     if at < 1000 {
-        print::text(b"box");
+        printing::text(b"box");
         show_number(boxes, at);
         show_number(boxes, at + 1);
         show_number(boxes, at + 2);
         show_number(boxes, at + 3);
-        print::text(b"\n");
+        printing::text(b"\n");
     }
 }
 

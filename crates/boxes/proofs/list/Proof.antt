@@ -1,7 +1,7 @@
 -- `boxes::list` meets its contract. Assumes nothing.
 use native.Mathlib.Omega.{arith}
 use Rattle.files.specs.File.{text, unread}
-use Rattle.files.specs.Refusals.{placeLine}
+use Rattle.wording.specs.Refusals.{placeLine}
 use Rattle.dimacs.proofs.Accepted.{read-gr-limits}
 use Rattle.boxes.specs.Prints.{unreadLine, gr-unread, gr-refused, gr-read}
 use borrow.Author.Needs.{needs}

@@ -1,7 +1,7 @@
 -- `boxes::list_with_places` meets its contract. Assumes nothing.
 use native.Mathlib.Omega.{arith}
 use Rattle.files.specs.File.{text, unread}
-use Rattle.files.specs.Refusals.{placeLine}
+use Rattle.wording.specs.Refusals.{placeLine}
 use Rattle.boxes.specs.Prints.{unreadLine, builtText, co-unread, co-refused, built}
 use borrow.Author.Needs.{needs}
 use Rattle.boxes.proofs.list_with_places.Statement.{statement}

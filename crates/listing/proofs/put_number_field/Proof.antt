@@ -3,7 +3,7 @@ use Prim.Native.Nat.{_-_}
 use mathlib.Core.Path.{ap}
 use native.Mathlib.Omega.{arith}
 use Rattle.scan.specs.Ascii.{bytes}
-use Rattle.files.proofs.PageLaws.{puts-both, puts-same}
+use Rattle.pages.proofs.PageLaws.{puts-both, puts-same}
 use mir.Syntax.{w32}
 use mir.Facts.{toZ-ofZ}
 use Rattle.scan.specs.Decimal.{whole}

@@ -2,7 +2,7 @@
 use native.Mathlib.Omega.{arith}
 use borrow.Author.Needs.{needs}
 use Rattle.scan.specs.Ascii.{bytes}
-use Rattle.files.proofs.PageLaws.{puts-case}
+use Rattle.pages.proofs.PageLaws.{puts-case}
 use Rattle.commands.specs.Rows.{nameOf}
 use Rattle.replies.proofs.showing.put_name.Statement.{statement}
 use Rattle.replies.proofs.showing.put_name.Tie as tie

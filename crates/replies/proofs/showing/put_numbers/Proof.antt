@@ -7,11 +7,11 @@ use lib.ListN.{length, take}
 use lib.Seq.{take-all}
 use mir.Facts.{toZ-ofZ}
 use borrow.Author.Needs.{needs, sfits-of}
-use Rattle.files.specs.Page.{Puts}
+use Rattle.pages.specs.Page.{Puts}
 use Rattle.scan.specs.Decimal.{whole}
-use Rattle.files.specs.Decimal.{spaced, numbersText}
-use Rattle.files.proofs.PageLaws.{puts-same, puts-both, puts-none}
-use Rattle.files.proofs.RowLaws.{puts-next}
+use Rattle.pages.specs.Spaced.{spaced, numbersText}
+use Rattle.pages.proofs.PageLaws.{puts-same, puts-both, puts-none}
+use Rattle.pages.proofs.SpacedLaws.{puts-next}
 use Rattle.replies.proofs.showing.put_numbers.Statement.{statement}
 use Rattle.replies.proofs.showing.put_numbers.Tie as tie
 

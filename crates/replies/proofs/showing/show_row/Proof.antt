@@ -2,7 +2,7 @@
 use native.Mathlib.Omega.{arith}
 use borrow.Author.Needs.{needs}
 use Rattle.scan.specs.Ascii.{bytes}
-use Rattle.files.proofs.PageLaws.{puts-both}
+use Rattle.pages.proofs.PageLaws.{puts-both}
 use Rattle.lending.specs.Stores.{stores}
 use Rattle.replies.proofs.ShowingLaws.{lent-there, show-fewer, show-enough}
 use Rattle.replies.proofs.showing.show_row.Statement.{statement}

@@ -2,7 +2,7 @@
 use native.Mathlib.Omega.{arith}
 use borrow.Author.Needs.{needs}
 use Rattle.scan.specs.Ascii.{bytes}
-use Rattle.files.proofs.PageLaws.{puts-case}
+use Rattle.pages.proofs.PageLaws.{puts-case}
 use Rattle.replies.specs.Replies.{faultLine}
 use Rattle.replies.proofs.words.put_fault.Statement.{statement}
 use Rattle.replies.proofs.words.put_fault.Tie as tie

@@ -2,7 +2,7 @@
 use mathlib.Core.Path.{sym, ap}
 use native.Mathlib.Omega.{arith}
 use borrow.Author.Needs.{needs}
-use Rattle.files.proofs.PageLaws.{puts-case}
+use Rattle.pages.proofs.PageLaws.{puts-case}
 use Rattle.dimacs.specs.declared.GrReply.{GrReply}
 use Rattle.requests.specs.Requests.{graphLine, graphSizes}
 use Rattle.requests.proofs.texts.graph_done.Statement.{statement}

@@ -1,7 +1,7 @@
 -- `requests::texts::put_places` meets its contract. Assumes nothing.
 use native.Mathlib.Omega.{arith}
 use borrow.Author.Needs.{needs}
-use Rattle.files.proofs.PageLaws.{puts-case}
+use Rattle.pages.proofs.PageLaws.{puts-case}
 use Rattle.requests.specs.Requests.{placesLine}
 use Rattle.requests.proofs.texts.put_places.Statement.{statement}
 use Rattle.requests.proofs.texts.put_places.Tie as tie
