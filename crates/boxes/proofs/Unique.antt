@@ -8,7 +8,7 @@ use Rattle.walks.specs.Rows.{Rows}
 use Rattle.files.specs.File.{Held}
 use Rattle.wording.specs.Refusals.{placeLine}
 use Rattle.dimacs.proofs.Unique.{read-gr-unique, read-co-unique}
-use Rattle.boxwork.specs.SaysLaws.{build-unique}
+use Rattle.boxwork.proofs.SaysLaws.{build-unique}
 use Rattle.boxes.specs.Prints.{PrintsPlaced, co-unread, co-refused, built, Prints, gr-unread, gr-refused, gr-read}
 
 placed-unique : {n m : ℕ} {R : Rows} {co : Held} {printed printed′ : List ℕ} → PrintsPlaced n m R co printed → PrintsPlaced n m R co printed′ → printed ≡ printed′

@@ -29,7 +29,7 @@ use Rattle.drawing.proofs.DrawnLaws.{drawn-then}
 use Rattle.boxwork.specs.Judge.{updateJudged}
 use Rattle.boxwork.specs.Says.{UpdateSays, reweighted}
 use Rattle.boxwork.specs.JudgeLaws.{build-fine, check-fine, update-fine, sound-reweighted}
-use Rattle.boxwork.specs.TightLaws.{inS-range}
+use Rattle.boxwork.proofs.TightLaws.{inS-range}
 use Rattle.boxwork.specs.Tight.{PlaceOfS, Tight, Updated, HoldsNode}
 
 -- the heads of sound rows are nodes

@@ -12,7 +12,7 @@ use Rattle.dimacs.proofs.Unique.{read-gr-unique, read-co-unique}
 use Rattle.dimacs.specs.declared.GrReply.{GrReply}
 use Rattle.search.specs.Paper.{paper-injective}
 use Rattle.search.specs.SaysLaws.{says-unique}
-use Rattle.boxwork.specs.SaysLaws.{build-unique, check-unique, update-unique}
+use Rattle.boxwork.proofs.SaysLaws.{build-unique, check-unique, update-unique}
 use Rattle.replies.specs.Replies.{judgedLine}
 use Rattle.requests.specs.Desk.{Desk, put}
 use Rattle.commands.specs.declared.rows.Row.the-variants.{Boxes, Route}

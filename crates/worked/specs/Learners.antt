@@ -5,7 +5,7 @@ use lib.IntN.{ℤ, pos, negsuc, pos-ne-negsuc}
 use Rattle.rules.specs.Paper.{accepted}
 use Rattle.geometry.specs.Row.{number}
 use Rattle.boxwork.specs.Says.{BuildSays}
-use Rattle.boxwork.specs.SaysLaws.{build-unique}
+use Rattle.boxwork.proofs.SaysLaws.{build-unique}
 use Rattle.worked.specs.Plans.{west}
 
 -- by the table's line, and since build has one content of the row only

@@ -10,7 +10,7 @@ use Rattle.walks.specs.Rows.{Rows, Sound, network}
 use Rattle.walks.specs.Through.{InS}
 use Rattle.settling.specs.Choice.{cond-by}
 use Rattle.drawing.specs.Leads.{leadsTo}
-use Rattle.boxwork.specs.TightLaws.{inS-range}
+use Rattle.boxwork.proofs.TightLaws.{inS-range}
 use Rattle.boxwork.proofs.Meaning.{leads-inS, inS-leads}
 use Rattle.worked.specs.Computed.{membersFrom, membersOf}
 

@@ -8,7 +8,7 @@ use Rattle.rules.specs.Paper.{Reply}
 use Rattle.walks.specs.Rows.{Rows}
 use Rattle.walks.specs.Checking.{missed-arc, missed-node, consistent-misses}
 use Rattle.drawing.proofs.DrawnLaws.{drawn-unique}
-use Rattle.boxwork.specs.TightLaws.{tight-unique, updated-unique}
+use Rattle.boxwork.proofs.TightLaws.{tight-unique, updated-unique}
 use Rattle.boxwork.specs.Says.{BuildSays, CheckSays, UpdateSays}
 
 module _ {n m : ℕ} {R : Rows} {x y boxes : List ℤ} where

@@ -16,7 +16,7 @@ use Rattle.boxwork.specs.Tight.{Tight, Updated, HoldsNode}
 use Rattle.boxwork.specs.Judge.{buildJudged, checkJudged, updateJudged}
 use Rattle.boxwork.specs.Says.{BuildSays, CheckSays, UpdateSays, reweighted}
 use Rattle.boxwork.specs.JudgeLaws.{Lent, Shaped, shaped-judged, lent-after}
-use Rattle.boxwork.specs.TightLaws.{inS-range, tight-holds, tight-shaped, updated-holds, updated-shaped}
+use Rattle.boxwork.proofs.TightLaws.{inS-range, tight-holds, tight-shaped, updated-holds, updated-shaped}
 
 -- ---- A refusal is not an accepting reply
 

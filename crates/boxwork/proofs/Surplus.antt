@@ -19,11 +19,11 @@ use Rattle.search.specs.Alike.{other-way, inS-alike}
 use Rattle.search.specs.Cut.{cut, place-cut, box-cut, arc-rows-cut, arcs-cut, network-cut, box-rows-cut, places-cut, boxes-cut}
 use Rattle.drawing.specs.Drawn.{Drawn}
 use Rattle.boxwork.specs.Tight.{PlaceOf, Tight, Updated, HoldsNode}
-use Rattle.boxwork.specs.TightLaws.{inS-range}
+use Rattle.boxwork.proofs.TightLaws.{inS-range}
 use Rattle.boxwork.specs.Judge.{buildJudged, checkJudged, updateJudged}
 use Rattle.boxwork.specs.JudgeLaws.{build-fine, check-fine, update-fine, sound-reweighted}
 use Rattle.boxwork.specs.Says.{BuildSays, CheckSays, UpdateSays, reweighted}
-use Rattle.boxwork.specs.SaysLaws.{build-unique, check-unique, update-unique}
+use Rattle.boxwork.proofs.SaysLaws.{build-unique, check-unique, update-unique}
 
 -- ---- The row of boxes
 
