@@ -13,9 +13,9 @@ use Rattle.geometry.specs.Box.{Within}
 use Rattle.geometry.specs.Row.{coordinate}
 use Rattle.drawing.specs.Drawn.{Drawn}
 use Rattle.boxwork.specs.Tight.{Tight, Updated, HoldsNode}
-use Rattle.boxwork.specs.Judge.{buildJudged, checkJudged, updateJudged}
+use Rattle.judging.specs.Order.{buildJudged, checkJudged, updateJudged}
 use Rattle.boxwork.specs.Says.{BuildSays, CheckSays, UpdateSays, reweighted}
-use Rattle.boxwork.specs.JudgeLaws.{Lent, Shaped, shaped-judged, lent-after}
+use Rattle.judging.proofs.FineLaws.{BoxesLent as Lent, Shaped, shaped-judged, lent-after}
 use Rattle.boxwork.proofs.TightLaws.{inS-range, tight-holds, tight-shaped, updated-holds, updated-shaped}
 
 -- ---- A refusal is not an accepting reply

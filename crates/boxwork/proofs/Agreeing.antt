@@ -1,35 +1,19 @@
 -- Searches in two networks that answer alike agree in what they say. Assumes nothing.
-use Prim.Native.Nat.{ℕ, _≤_}
-use mathlib.Core.Path.{_≡_, refl, sym, ap, _∙_}
+use Prim.Native.Nat.{ℕ}
+use mathlib.Core.Path.{_≡_, refl, ap}
 use mathlib.Core.Logic.{_↔_}
-use mathlib.Core.Bool.{_&&_}
 use mathlib.Core.List.{List}
 use native.Mathlib.Omega.{arith}
-use native.Mathlib.Decide.{decLe}
-use borrow.Author.Tests.{le-leb, lt-leb}
-use lib.IntN.{ℤ}
-use lib.Dec.{leb}
 use Rattle.rules.specs.Paper.{Reply, refusal-nonzero}
-use Rattle.rules.specs.Judging.{each}
 use Rattle.rules.specs.declared.Judged.{Judged}
-use Rattle.rules.specs.declared.Judged.the-variants.{Fine}
-use Rattle.rules.specs.declared.Refusal.the-variants.{NoWalk, BadCoordinate, BadBox}
+use Rattle.rules.specs.declared.Refusal.the-variants.{NoWalk}
 use Rattle.walks.specs.Walk.{Net}
-use Rattle.walks.specs.Rows.{Rows}
 use Rattle.walks.specs.Least.{Reached}
 use Rattle.walks.specs.LeastLaws.{best-length, best-count}
 use Rattle.walks.specs.RouteLaws.{route-unique}
 use Rattle.walks.specs.Pruning.{SameAnswers}
-use Rattle.geometry.specs.Row.{goodPlace, goodBox}
-use Rattle.settling.specs.Choice.{and-yes}
-use Rattle.judging.specs.Judge.{networkJudged}
-use Rattle.search.specs.Judge.{boxRowsLong, searchJudged, boxedJudged}
-use Rattle.judging.specs.JudgeLaws.{both-fine, network-fine}
-use Rattle.search.specs.JudgeLaws.{search-judged, boxed-judged}
 use Rattle.search.specs.Says.{Answers, found, none, Says, refused, answered}
-use Rattle.boxwork.specs.Judge.{buildJudged, checkJudged}
 use Rattle.boxwork.specs.Demand3.{Agree, same-route, no-walk, same-refusal, NoRoute}
-use Rattle.boxwork.specs.JudgeLaws.{build-judged, check-judged}
 
 module _ {N F : Net} {n s t : ℕ} {before before′ : List ℕ} (same : SameAnswers N F s t) where
   answers-agree : {reply reply′ : Reply} {after after′ : List ℕ} → Answers N n s t before reply after → Answers F n s t before′ reply′ after′
@@ -58,24 +42,3 @@ answers-none same (found p) = (
   (λ h. absurd (same .no-walk .0 h (record { length = _; count = _; walk = p .best .walk }))),
 )
 answers-none same (none {c = c} p) = ((λ z. same .no-walk .1 (p .none)), (λ h. record { settled = c; is = refl }))
-
--- where a check gets past 10, both searches are judged alike
-pub judged-alike : (n m : ℕ) (R : Rows) (x y boxes : List ℤ) → checkJudged n m R x y boxes ≡ Fine → (s t places : ℕ) → boxedJudged n m R x y boxes s t places ≡ searchJudged n m R s t places
-judged-alike n m R x y boxes fine s t places =
-    let p = both-fine (buildJudged n m R x y boxes) (each (goodBox boxes) BadBox m) (sym (check-judged n m R x y boxes) ∙ fine) in
-    let q = both-fine (networkJudged n m R (boxRowsLong n m x y boxes)) (each (goodPlace x y) BadCoordinate n) (sym (build-judged n m R x y boxes) ∙ p .0) in
-    let long : boxRowsLong n m x y boxes && leb n places ≡ leb n places = and-yes (network-fine n m R (boxRowsLong n m x y boxes) (q .0) .1) refl in
-    let places-fine : each (goodPlace x y) BadCoordinate n ≡ Fine = q .1 in
-    let boxes-fine : each (goodBox boxes) BadBox m ≡ Fine = p .1 in
-    boxed-judged n m R s t places x y boxes ∙ (rw (long, places-fine, boxes-fine) (sym (search-judged n m R s t places)))
-
--- a search is judged alike by two route rows that both have n places, or both have not
-pub room-alike : (n m : ℕ) (R : Rows) (s t : ℕ) {a b : ℕ} → (n ≤ a) ↔ (n ≤ b) → searchJudged n m R s t b ≡ searchJudged n m R s t a
-unfolding searchJudged
-room-alike n m R s t {a} {b} h = rw long
-  where
-    long : leb n b ≡ leb n a
-    long = elim (decLe n a) [
-      | yes p ↦ le-leb n b (h .0 p) ∙ sym (le-leb n a p)
-      | no p ↦ elim (decLe n b) [ yes q ↦ absurd (p (h .1 q)) | no q ↦ lt-leb n b (omega arith) ∙ sym (lt-leb n a (omega arith)) ]
-    ]

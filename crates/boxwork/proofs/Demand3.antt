@@ -11,9 +11,10 @@ use Rattle.walks.specs.ThroughLaws.{inS-begins, begins-inS}
 use Rattle.walks.specs.Pruning.{pruning}
 use Rattle.search.specs.Says.{Says, refused, answered, holding}
 use Rattle.boxwork.specs.Says.{CheckSays}
-use Rattle.boxwork.specs.JudgeLaws.{build-fine, check-fine, update-fine, lent-reweighted}
+use Rattle.judging.proofs.FineLaws.{build-fine, check-fine, update-fine, judged-alike, room-alike}
+use Rattle.boxwork.proofs.ReweightedLaws.{lent-reweighted}
 use Rattle.boxwork.specs.Demand3.{CheckExactly, AfterYes, NoRouteExactly, BuildYes, UpdateYes}
-use Rattle.boxwork.proofs.Agreeing.{says-agree, answers-none, judged-alike, room-alike}
+use Rattle.boxwork.proofs.Agreeing.{says-agree, answers-none}
 use Rattle.boxwork.proofs.Accepting.{check-accepts, build-accepts, update-accepts, tight-accepted, updated-accepted}
 
 module _ (n m : ℕ) (R : Rows) (x y boxes : List ℤ) where

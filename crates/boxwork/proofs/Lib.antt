@@ -1,3 +1,4 @@
+pub mod ReweightedLaws
 pub mod TightLaws
 pub mod SaysLaws
 pub mod Meaning

@@ -26,9 +26,10 @@ use Rattle.drawing.specs.Grown.{Nodes, headBox, grownBy, Started, GrownHead, Gr
 use Rattle.drawing.specs.Missed.{missesB, Lowest}
 use Rattle.drawing.proofs.GrownLaws.{Led, grown-by}
 use Rattle.drawing.proofs.DrawnLaws.{drawn-then}
-use Rattle.boxwork.specs.Judge.{updateJudged}
+use Rattle.judging.specs.Order.{updateJudged}
 use Rattle.boxwork.specs.Says.{UpdateSays, reweighted}
-use Rattle.boxwork.specs.JudgeLaws.{build-fine, check-fine, update-fine, sound-reweighted}
+use Rattle.judging.proofs.FineLaws.{build-fine, check-fine, update-fine}
+use Rattle.boxwork.proofs.ReweightedLaws.{sound-reweighted}
 use Rattle.boxwork.proofs.TightLaws.{inS-range}
 use Rattle.boxwork.specs.Tight.{PlaceOfS, Tight, Updated, HoldsNode}
 

@@ -16,12 +16,14 @@ use Rattle.geometry.specs.Box.{Box}
 use Rattle.geometry.specs.Row.{number, boxOf}
 use Rattle.geometry.proofs.SmallestLaws.{smallest-same}
 use Rattle.search.specs.Alike.{other-way, inS-alike}
-use Rattle.search.specs.Cut.{cut, place-cut, box-cut, arc-rows-cut, arcs-cut, network-cut, box-rows-cut, places-cut, boxes-cut}
+use Rattle.judging.specs.Cut.{cut}
+use Rattle.judging.proofs.CutLaws.{place-cut, box-cut, build-judged-cut, check-judged-cut, update-judged-cut}
+use Rattle.search.specs.Cut.{network-cut}
 use Rattle.drawing.specs.Drawn.{Drawn}
 use Rattle.boxwork.specs.Tight.{PlaceOf, Tight, Updated, HoldsNode}
 use Rattle.boxwork.proofs.TightLaws.{inS-range}
-use Rattle.boxwork.specs.Judge.{buildJudged, checkJudged, updateJudged}
-use Rattle.boxwork.specs.JudgeLaws.{build-fine, check-fine, update-fine, sound-reweighted}
+use Rattle.judging.proofs.FineLaws.{build-fine, check-fine, update-fine}
+use Rattle.boxwork.proofs.ReweightedLaws.{sound-reweighted}
 use Rattle.boxwork.specs.Says.{BuildSays, CheckSays, UpdateSays, reweighted}
 use Rattle.boxwork.proofs.SaysLaws.{build-unique, check-unique, update-unique}
 
@@ -105,21 +107,6 @@ module _ {n m : ℕ} {R : Rows} (sound : Sound n m R) (x y : List ℤ) where
 
     misses-back : {e t : ℕ} → Misses (network m (cut m R)) (HoldsNode (take n x) (take n y) (take (4 * m) boxes)) e t → Misses (network m R) (HoldsNode x y boxes) e t
     misses-back {e} {t} h = let i = inS-back (h .member) in record { member = i; refused = λ k. h .refused (holds-there e t i k) }
-
--- ---- Judged alike
-
-module _ (n m : ℕ) (R : Rows) (x y boxes : List ℤ) where
-  build-judged-cut : buildJudged n m (cut m R) (take n x) (take n y) (take (4 * m) boxes) ≡ buildJudged n m R x y boxes
-  unfolding buildJudged
-  build-judged-cut = rw (arc-rows-cut m R, box-rows-cut n m x y boxes, arcs-cut m R n, places-cut n m x y boxes)
-
-  check-judged-cut : checkJudged n m (cut m R) (take n x) (take n y) (take (4 * m) boxes) ≡ checkJudged n m R x y boxes
-  unfolding checkJudged
-  check-judged-cut = rw (arc-rows-cut m R, box-rows-cut n m x y boxes, arcs-cut m R n, places-cut n m x y boxes, boxes-cut n m x y boxes)
-
-  update-judged-cut : (arc weight : ℕ) → updateJudged n m (cut m R) (take n x) (take n y) (take (4 * m) boxes) arc weight ≡ updateJudged n m R x y boxes arc weight
-  unfolding updateJudged
-  update-judged-cut arc weight = rw (arc-rows-cut m R, box-rows-cut n m x y boxes, arcs-cut m R n, places-cut n m x y boxes, boxes-cut n m x y boxes)
 
 -- ---- The laws
 

@@ -14,10 +14,9 @@ use Rattle.rules.specs.declared.Refusal.the-variants.{NoWalk}
 use Rattle.walks.specs.Least.{Reached}
 use Rattle.walks.specs.Rows.{Rows, rows, network}
 use Rattle.walks.specs.Through.{Begins}
-use Rattle.search.specs.Judge.{boxedJudged}
 use Rattle.search.specs.Says.{SearchSays, BoxedSays}
 use Rattle.boxwork.specs.Tight.{HoldsNode}
-use Rattle.boxwork.specs.Judge.{checkJudged}
+use Rattle.judging.specs.Order.{boxedJudged, checkJudged}
 use Rattle.boxwork.specs.Says.{BuildSays, CheckSays, UpdateSays}
 
 -- each box holds every node to which some shortest walk from that arc's tail begins with that arc

@@ -13,7 +13,7 @@ use Rattle.walks.specs.Through.{Consistent}
 use Rattle.walks.specs.Checking.{FirstMissed}
 use Rattle.drawing.specs.Drawn.{Drawn}
 use Rattle.boxwork.specs.Tight.{Tight, Updated, HoldsNode}
-use Rattle.boxwork.specs.Judge.{buildJudged, checkJudged, updateJudged}
+use Rattle.judging.specs.Order.{buildJudged, checkJudged, updateJudged}
 
 -- Build: the tight boxes of the arcs 1..m stand in the row, whose other places keep their contents. A refusal leaves the row as it was.
 pub data BuildSays (n m : ℕ) (R : Rows) (x y before : List ℤ) : Reply → List ℤ → Type 0 where

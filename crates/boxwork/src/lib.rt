@@ -9,8 +9,6 @@ use drawing::compare::Missed;
 use rules::Judged;
 use rules::Refusal;
 
-pub mod judge;
-
 // Build writes the tight boxes: each is the smallest that holds its arc's head and all of its S(e).
 pub fn build(
     n: u32,
@@ -24,7 +22,7 @@ pub fn build(
 ) -> Judged
     ensures { λ r. ⌜ BuildSays n m (rows (now (tails .entry)) (now (heads .entry)) (now (weights .entry))) (now (x .entry)) (now (y .entry)) (now (boxes .entry)) (judgedReply r) (now (boxes .exit)) ⌝ }
 {
-    let j = judge::judge_build(n, m, tails, heads, weights, x, y, boxes);
+    let j = judging::judge_build(n, m, tails, heads, weights, x, y, boxes);
     let Judged::Fine = j else {
         return j;
     };
@@ -46,7 +44,7 @@ pub fn check(
 ) -> Judged
     ensures { λ r. ⌜ CheckSays n m (rows (now (tails .entry)) (now (heads .entry)) (now (weights .entry))) (now (x .entry)) (now (y .entry)) (now (boxes .entry)) (judgedReply r) ⌝ }
 {
-    let j = judge::judge_check(n, m, tails, heads, weights, x, y, boxes);
+    let j = judging::judge_check(n, m, tails, heads, weights, x, y, boxes);
     let Judged::Fine = j else {
         return j;
     };
@@ -89,7 +87,7 @@ pub fn update(
 ) -> Judged
     ensures { λ r. ⌜ UpdateSays n m (rows (now (tails .entry)) (now (heads .entry)) (now (weights .entry))) (now (x .entry)) (now (y .entry)) (now (boxes .entry)) arc weight (judgedReply r) (now (weights .exit)) (now (boxes .exit)) ⌝ }
 {
-    let j = judge::judge_update(n, m, tails, heads, weights, x, y, boxes, arc, weight);
+    let j = judging::judge_update(n, m, tails, heads, weights, x, y, boxes, arc, weight);
     let Judged::Fine = j else {
         return j;
     };

@@ -1,1 +1,4 @@
-pub mod Turns
+pub mod FineLaws
+pub mod CutLaws
+pub mod NextLaws
+pub mod SideLaws

@@ -1,2 +1,2 @@
-pub mod Judge
-pub mod JudgeLaws
+pub mod Order
+pub mod Cut

@@ -1,67 +1,25 @@
-// Judging what is lent: sizes, the arc rows' lengths, and the arcs: refusals 5, 2 and 8, which every call on a network begins with.
+// Judging what a call is lent, in the one order of refusals: a stage of it stands in each module, the calls stand here.
 ghost use mathlib.Core.Path.{_≡_};
-ghost use Prim.Native.Nat.{_≤_};
-ghost use lib.ListN.{length};
-ghost use Rattle.rules.specs.Judging.{passes};
 ghost use Rattle.walks.specs.Rows.{rows};
-ghost use Rattle.judging.specs.Judge.{sizes, arcRowsLong, goodArc, arcs, networkJudged};
+ghost use Rattle.judging.specs.Order.{networkJudged, placedJudged, shapedJudged, searchJudged, boxedJudged, buildJudged, checkJudged, updateJudged};
+use arcs::judge_arcs;
+use boxes::judge_boxes;
+use ends::judge_change;
+use ends::judge_ends;
+use places::judge_places;
 use rules::Judged;
-use rules::Refusal;
+use sizes::arc_rows_long;
+use sizes::box_rows_long;
+use sizes::judge_lengths;
+use sizes::judge_sizes;
 
-// Fine where a test passed, else a refusal.
-pub fn unless(passed: bool, refusal: Refusal) -> Judged
-    ensures { λ r. ⌜ r ≡ passes passed refusal ⌝ }
-{
-    if passed {
-        return Judged::Fine;
-    }
-    Judged::Refused(refusal)
-}
+pub mod arcs;
+pub mod boxes;
+pub mod ends;
+pub mod places;
+pub mod sizes;
 
-// Refusal 5 where n or m is beyond its limits.
-fn judge_sizes(n: u32, m: u32) -> Judged
-    ensures { λ r. ⌜ r ≡ sizes n m ⌝ }
-{
-    unless(
-        (1 <= n) & (n <= rules::NODES) & (m <= rules::ARCS),
-        Refusal::BeyondLimits { line: 0 },
-    )
-}
-
-// Whether the arc rows have m places.
-fn arc_rows_long(m: u32, tails: &[u32], heads: &[u32], weights: &[u32]) -> bool
-    ensures { λ r. ⌜ r ≡ arcRowsLong m (rows (now (tails .entry)) (now (heads .entry)) (now (weights .entry))) ⌝ }
-{
-    let places = m as usize;
-    (places <= tails.len()) & (places <= heads.len()) & (places <= weights.len())
-}
-
-// Whether an arc's ends are nodes and its weight is within the limit.
-fn good_arc(n: u32, tail: u32, head: u32, weight: u32) -> bool
-    ensures { λ r. ⌜ r ≡ goodArc n tail head weight ⌝ }
-{
-    (1 <= tail) & (tail <= n) & (1 <= head) & (head <= n) & (weight <= rules::WEIGHT)
-}
-
-// Refusal 8 of the lowest arc of 1..m that has a bad node or weight.
-fn judge_arcs(n: u32, m: u32, tails: &[u32], heads: &[u32], weights: &[u32]) -> Judged
-    requires { ⌜ (m ≤ length (now tails)) × (m ≤ length (now heads)) × (m ≤ length (now weights)) ⌝ }
-    ensures { λ r. ⌜ r ≡ arcs n m (rows (now (tails .entry)) (now (heads .entry)) (now (weights .entry))) ⌝ }
-{
-    let places = m as usize;
-    let mut i = 0;
-    while i < places {
-        if !good_arc(n, tails[i], heads[i], weights[i]) {
-            return Judged::Refused(Refusal::BadArc {
-                arc: (i + 1) as u32,
-            });
-        }
-        i += 1;
-    }
-    Judged::Fine
-}
-
-// Refusals 5, 2 and 8, in turn. `others` tells whether the other rows that are lent are long enough.
+// A network: 5, 2, 8. `others` tells whether the other rows that are lent are long enough.
 pub fn judge_network(
     n: u32,
     m: u32,
@@ -76,12 +34,150 @@ pub fn judge_network(
     let Judged::Fine = a else {
         return a;
     };
-    let b = unless(
-        arc_rows_long(m, tails, heads, weights) & others,
-        Refusal::RowTooShort,
-    );
+    let b = judge_lengths(arc_rows_long(m, tails, heads, weights) & others);
     let Judged::Fine = b else {
         return b;
     };
     judge_arcs(n, m, tails, heads, weights)
+}
+
+// A network with coordinates and a row for boxes: 5, 2, 8, 9.
+fn judge_placed(
+    n: u32,
+    m: u32,
+    tails: &[u32],
+    heads: &[u32],
+    weights: &[u32],
+    x: &[i32],
+    y: &[i32],
+    boxes: &[i32],
+    others: bool,
+) -> Judged
+    ensures { λ r. ⌜ r ≡ placedJudged n m (rows (now (tails .entry)) (now (heads .entry)) (now (weights .entry))) (now (x .entry)) (now (y .entry)) (now (boxes .entry)) others ⌝ }
+{
+    let long = box_rows_long(n, m, x, y, boxes) & others;
+    let a = judge_network(n, m, tails, heads, weights, long);
+    let Judged::Fine = a else {
+        return a;
+    };
+    judge_places(n as usize, x, y)
+}
+
+// A network with coordinates and boxes: 5, 2, 8, 9, 10.
+fn judge_shaped(
+    n: u32,
+    m: u32,
+    tails: &[u32],
+    heads: &[u32],
+    weights: &[u32],
+    x: &[i32],
+    y: &[i32],
+    boxes: &[i32],
+    others: bool,
+) -> Judged
+    ensures { λ r. ⌜ r ≡ shapedJudged n m (rows (now (tails .entry)) (now (heads .entry)) (now (weights .entry))) (now (x .entry)) (now (y .entry)) (now (boxes .entry)) others ⌝ }
+{
+    let a = judge_placed(n, m, tails, heads, weights, x, y, boxes, others);
+    let Judged::Fine = a else {
+        return a;
+    };
+    judge_boxes(m as usize, boxes)
+}
+
+// A search from `s` to `t` with a route row of `places` places: 5, 2, 8, 11.
+pub fn judge_search(
+    n: u32,
+    m: u32,
+    tails: &[u32],
+    heads: &[u32],
+    weights: &[u32],
+    s: u32,
+    t: u32,
+    places: usize,
+) -> Judged
+    ensures { λ r. ⌜ r ≡ searchJudged n m (rows (now (tails .entry)) (now (heads .entry)) (now (weights .entry))) s t places ⌝ }
+{
+    let a = judge_network(n, m, tails, heads, weights, n as usize <= places);
+    let Judged::Fine = a else {
+        return a;
+    };
+    judge_ends(n, s, t)
+}
+
+// A search with boxes: 5, 2, 8, 9, 10, 11.
+pub fn judge_boxed(
+    n: u32,
+    m: u32,
+    tails: &[u32],
+    heads: &[u32],
+    weights: &[u32],
+    x: &[i32],
+    y: &[i32],
+    boxes: &[i32],
+    s: u32,
+    t: u32,
+    places: usize,
+) -> Judged
+    ensures { λ r. ⌜ r ≡ boxedJudged n m (rows (now (tails .entry)) (now (heads .entry)) (now (weights .entry))) (now (x .entry)) (now (y .entry)) (now (boxes .entry)) s t places ⌝ }
+{
+    let room = n as usize <= places;
+    let a = judge_shaped(n, m, tails, heads, weights, x, y, boxes, room);
+    let Judged::Fine = a else {
+        return a;
+    };
+    judge_ends(n, s, t)
+}
+
+// A build: 5, 2, 8, 9.
+pub fn judge_build(
+    n: u32,
+    m: u32,
+    tails: &[u32],
+    heads: &[u32],
+    weights: &[u32],
+    x: &[i32],
+    y: &[i32],
+    boxes: &[i32],
+) -> Judged
+    ensures { λ r. ⌜ r ≡ buildJudged n m (rows (now (tails .entry)) (now (heads .entry)) (now (weights .entry))) (now (x .entry)) (now (y .entry)) (now (boxes .entry)) ⌝ }
+{
+    judge_placed(n, m, tails, heads, weights, x, y, boxes, true)
+}
+
+// A check before 13: 5, 2, 8, 9, 10.
+pub fn judge_check(
+    n: u32,
+    m: u32,
+    tails: &[u32],
+    heads: &[u32],
+    weights: &[u32],
+    x: &[i32],
+    y: &[i32],
+    boxes: &[i32],
+) -> Judged
+    ensures { λ r. ⌜ r ≡ checkJudged n m (rows (now (tails .entry)) (now (heads .entry)) (now (weights .entry))) (now (x .entry)) (now (y .entry)) (now (boxes .entry)) ⌝ }
+{
+    judge_shaped(n, m, tails, heads, weights, x, y, boxes, true)
+}
+
+// An update: 5, 2, 8, 9, 10, 11, 5.
+pub fn judge_update(
+    n: u32,
+    m: u32,
+    tails: &[u32],
+    heads: &[u32],
+    weights: &[u32],
+    x: &[i32],
+    y: &[i32],
+    boxes: &[i32],
+    arc: u32,
+    weight: u32,
+) -> Judged
+    ensures { λ r. ⌜ r ≡ updateJudged n m (rows (now (tails .entry)) (now (heads .entry)) (now (weights .entry))) (now (x .entry)) (now (y .entry)) (now (boxes .entry)) arc weight ⌝ }
+{
+    let a = judge_check(n, m, tails, heads, weights, x, y, boxes);
+    let Judged::Fine = a else {
+        return a;
+    };
+    judge_change(m, arc, weight)
 }

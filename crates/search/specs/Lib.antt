@@ -1,6 +1,4 @@
--- What the searches say, and that it leaves one reply and one row. What a reader must believe: Judge, Paper, Says.
-pub mod Judge
-pub mod JudgeLaws
+-- What the searches say, and that it leaves one reply and one row. What a reader must believe: Paper, Says.
 pub mod Paper
 pub mod Says
 pub mod SaysLaws

@@ -14,7 +14,7 @@ use Rattle.geometry.specs.Row.{boxOf, coordinate}
 use Rattle.walks.specs.Walk.{Net, only}
 use Rattle.walks.specs.Rows.{Rows, network}
 use Rattle.walks.specs.Search.{Found, NoWalk}
-use Rattle.search.specs.Judge.{searchJudged, boxedJudged}
+use Rattle.judging.specs.Order.{searchJudged, boxedJudged}
 
 -- The answer for a network of n nodes. Found: the length d, the arc count k and the settled count c, and the route's arcs,
 -- source first, in the row's first places; the places after it keep their contents. Else 12 with the settled count.

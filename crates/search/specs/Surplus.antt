@@ -18,13 +18,14 @@ use Rattle.walks.specs.Search.{Found, found-unique, not-both}
 use Rattle.settling.specs.Choice.{either}
 use Rattle.settling.specs.Run.{searchOf}
 use Rattle.settling.specs.Right.{search-found, search-missed}
-use Rattle.search.specs.Judge.{searchJudged, boxedJudged}
-use Rattle.search.specs.JudgeLaws.{Lent, search-fine, boxed-fine}
+use Rattle.judging.specs.Cut.{cut}
+use Rattle.judging.proofs.CutLaws.{place-cut, box-cut, search-judged-cut, boxed-judged-cut}
+use Rattle.judging.proofs.FineLaws.{SearchLent, search-fine, boxed-fine}
 use Rattle.search.specs.Says.{Answers, found, none, Says, refused, answered, SearchSays, BoxedSays, holding}
 use Rattle.search.specs.SaysLaws.{says-unique}
 use Rattle.search.specs.Alike.{Alike, other-way, found-alike, no-walk-alike}
 use Rattle.search.specs.Networks.{all-arcs, held-arcs}
-use Rattle.search.specs.Cut.{cut, long-cut, place-cut, box-cut, arc-rows-cut, arcs-cut, network-cut, box-rows-cut, places-cut, boxes-cut}
+use Rattle.search.specs.Cut.{network-cut}
 
 -- ---- The route row
 
@@ -40,7 +41,7 @@ row-cut route before n short long =
 
 -- a route has fewer arcs than there are nodes
 short :
-    {n m : ℕ} {R : Rows} (keep : ℕ → Bool) {N : Net} {s t : ℕ} (before : List ℕ) → Lent n m R s t (length before) → Alike N (kept keep (network m R))
+    {n m : ℕ} {R : Rows} (keep : ℕ → Bool) {N : Net} {s t : ℕ} (before : List ℕ) → SearchLent n m R s t (length before) → Alike N (kept keep (network m R))
     → (d k c : ℕ) (route : List ℕ) → Found N n s t d k c route → length route ≤ n
 short {n} {m} {R} keep {N} {s} {t} before l x d k c route f = elim (either (searchOf R keep n m t s .found)) [
   | inl e ↦
@@ -66,22 +67,14 @@ module _ {N F : Net} {n s t : ℕ} {before : List ℕ} where
 -- ---- The laws
 
 module _ (n m : ℕ) (R : Rows) (s t : ℕ) (before : List ℕ) where
-  judged-cut : searchJudged n m (cut m R) s t (length (take n before)) ≡ searchJudged n m R s t (length before)
-  unfolding searchJudged
-  judged-cut = rw (arc-rows-cut m R, arcs-cut m R n, long-cut n before)
-
   pub search-cut : {reply : Reply} {after : List ℕ} → SearchSays n m R s t before reply after
       → SearchSays n m (cut m R) s t (take n before) reply (take n after) × (drop n after ≡ drop n before)
   search-cut says =
-      says-cut judged-cut (λ e.
+      says-cut (search-judged-cut n m R s t before) (λ e.
       let l = search-fine n m R s t (length before) e in
       (network-cut m R, l .room, short (λ e. true) before l (other-way (all-arcs (network m R))))) says
 
   module _ (x y boxes : List ℤ) where
-    boxed-judged-cut : boxedJudged n m (cut m R) (take n x) (take n y) (take (4 * m) boxes) s t (length (take n before)) ≡ boxedJudged n m R x y boxes s t (length before)
-    unfolding boxedJudged
-    boxed-judged-cut = rw (arc-rows-cut m R, box-rows-cut n m x y boxes, long-cut n before, arcs-cut m R n, places-cut n m x y boxes, boxes-cut n m x y boxes)
-
     holding-cut : 1 ≤ t → t ≤ n → Alike (holding x y boxes t (network m R)) (holding (take n x) (take n y) (take (4 * m) boxes) t (network m (cut m R)))
     unfolding network
     holding-cut low high = record {
@@ -95,7 +88,7 @@ module _ (n m : ℕ) (R : Rows) (s t : ℕ) (before : List ℕ) where
     pub boxed-cut : {reply : Reply} {after : List ℕ} → BoxedSays n m R x y boxes s t before reply after
         → BoxedSays n m (cut m R) (take n x) (take n y) (take (4 * m) boxes) s t (take n before) reply (take n after) × (drop n after ≡ drop n before)
     boxed-cut says =
-        says-cut boxed-judged-cut (λ e.
+        says-cut (boxed-judged-cut n m R x y boxes s t before) (λ e.
         let l = boxed-fine n m R s t (length before) x y boxes e .0 in
         (holding-cut (l .target-low) (l .target-high), l .room, short _ before l (other-way (held-arcs x y boxes t (network m R))))) says
 

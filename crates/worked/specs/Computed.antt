@@ -17,13 +17,12 @@ use Rattle.settling.specs.declared.Outcome.{Outcome}
 use Rattle.settling.specs.Labels.{lengthOf, arcsOf}
 use Rattle.settling.specs.Run.{searchOf}
 use Rattle.settling.specs.Trace.{traceOf}
-use Rattle.search.specs.Judge.{searchJudged, boxedJudged}
+use Rattle.judging.specs.Order.{searchJudged, boxedJudged, buildJudged, checkJudged, updateJudged}
 use Rattle.drawing.specs.declared.compare.Missed.{Missed}
 use Rattle.drawing.specs.declared.compare.Missed.the-variants.{Nothing, At}
 use Rattle.drawing.specs.Leads.{leadsTo}
 use Rattle.drawing.specs.Grown.{headBox, grownBy}
 use Rattle.drawing.specs.Missed.{missesB}
-use Rattle.boxwork.specs.Judge.{buildJudged, checkJudged, updateJudged}
 use Rattle.boxwork.specs.Says.{reweighted}
 
 -- a reply, with the route or weight row and the box row afterwards

@@ -16,8 +16,8 @@ use Rattle.geometry.specs.Box.{Box}
 use Rattle.geometry.specs.Row.{boxOf}
 use Rattle.settling.specs.Choice.{cond-by}
 use Rattle.settling.specs.Run.{searchOf}
-use Rattle.search.specs.Judge.{searchJudged, boxedJudged}
-use Rattle.search.specs.JudgeLaws.{Lent, search-fine, boxed-fine}
+use Rattle.judging.specs.Order.{searchJudged, boxedJudged, buildJudged, checkJudged, updateJudged}
+use Rattle.judging.proofs.FineLaws.{SearchLent, search-fine, boxed-fine, build-fine, check-fine, update-fine}
 use Rattle.search.specs.Says.{Answers, Says, SearchSays, BoxedSays, refused, answered}
 use Rattle.search.specs.Networks.{answers-alike, all-arcs, held-arcs}
 use Rattle.search.proofs.Answering.{found-answers, none-answers}
@@ -26,8 +26,7 @@ use Rattle.drawing.specs.declared.compare.Missed.the-variants.{Nothing, At}
 use Rattle.drawing.specs.Drawn.{Drawn}
 use Rattle.drawing.specs.Missed.{missesB, FirstOf}
 use Rattle.drawing.proofs.DrawnLaws.{drawn-none, drawn-next}
-use Rattle.boxwork.specs.Judge.{buildJudged, checkJudged, updateJudged}
-use Rattle.boxwork.specs.JudgeLaws.{build-fine, check-fine, update-fine, sound-reweighted}
+use Rattle.boxwork.proofs.ReweightedLaws.{sound-reweighted}
 use Rattle.boxwork.specs.Says.{BuildSays, CheckSays, UpdateSays, reweighted}
 use Rattle.boxwork.proofs.Meaning.{tight-made, updated-made, missed-first, missed-none}
 use Rattle.worked.specs.LowestLaws.{lowest-arc}
@@ -41,7 +40,7 @@ unfolding orTold
 says-told (Refused r) told h = refused refl
 says-told Fine told h = answered refl (h refl)
 
-answer-told : {n m : ℕ} {R : Rows} (keep : ℕ → Bool) (s t : ℕ) (row : List ℕ) → Lent n m R s t (length row)
+answer-told : {n m : ℕ} {R : Rows} (keep : ℕ → Bool) (s t : ℕ) (row : List ℕ) → SearchLent n m R s t (length row)
     → let told = answerOf R keep m t row (searchOf R keep n m t s) in Answers (kept keep (network m R)) n s t row (told .reply) (told .numbers)
 unfolding answerOf
 answer-told {n} {m} {R} keep s t row l =

@@ -10,33 +10,32 @@ use lib.Dec.{leb}
 use lib.IntN.{ℤ, pos, negsuc}
 use lib.ListN.{replicate}
 use Rattle.rules.specs.Paper.{accepted, refusal}
-use Rattle.rules.specs.Judging.{each}
+use Rattle.rules.specs.Judging.{each, isFine}
+use Rattle.rules.proofs.AndLaws.{and-true}
+use Rattle.rules.proofs.JudgingLaws.{is-fine}
 use Rattle.rules.specs.declared.Refusal.the-variants.{NoWalk, BoxMisses}
 use Rattle.walks.specs.Walk.{WalkBy}
 use Rattle.walks.specs.Rows.{network}
 use Rattle.walks.specs.Through.{InS}
 use Rattle.geometry.specs.Hull.{smaller, larger}
-use Rattle.settling.specs.Choice.{and-true}
 use Rattle.settling.specs.Labels.{before, startOf, labelled, offered, marked}
 use Rattle.settling.specs.Settle.{arcStep, relaxed, settleOf}
 use Rattle.settling.specs.Nearest.{better, leaderOf, nearestOf}
 use Rattle.settling.specs.Run.{afterPick, runOf}
 use Rattle.settling.specs.Trace.{fits, firstOf, arcFits, intoOf, afterInto, traceOf}
 use Rattle.settling.specs.LengthsTo.{onShortest}
-use Rattle.judging.specs.Judge.{networkJudged}
-use Rattle.search.specs.Judge.{searchJudged, boxedJudged}
-use Rattle.judging.specs.JudgeLaws.{network-fine}
+use Rattle.judging.specs.Order.{networkJudged, placedJudged, shapedJudged, searchJudged, boxedJudged, buildJudged, checkJudged, updateJudged}
+use Rattle.judging.proofs.FineLaws.{network-fine}
 use Rattle.search.specs.Says.{SearchSays, BoxedSays}
 use Rattle.drawing.specs.Leads.{leadsAt, lengthsTo}
 use Rattle.drawing.specs.Grown.{grownIf, grownBy}
 use Rattle.drawing.specs.Missed.{missesB}
-use Rattle.boxwork.specs.Judge.{buildJudged, checkJudged, updateJudged}
 use Rattle.boxwork.specs.Says.{BuildSays, CheckSays, UpdateSays}
 use Rattle.worked.specs.Plans.{Plan, hall, reweightedHall, oneWay, zeros, behind, west, triangle, detour, triangleBoxes, mendedBoxes, hallBoxes, raisedBoxes, fullBoxes, treeBoxes, blank, route}
 use Rattle.worked.specs.Computed.{Told, orTold, answerOf, searchTold, boxedTold, drawnTo, buildTold, updateTold, lowestNode, orArc, lowestArc, checkTold, membersFrom, membersOf}
 use Rattle.worked.specs.ComputedLaws.{search-told, boxed-told, build-told, check-told, update-told}
 use Rattle.worked.specs.MembersLaws.{Among, members-are}
-use Rattle.worked.specs.Tests.{sameNumbers, same-numbers, sameTold, same-told, isFine, is-fine, walks, walks-by}
+use Rattle.worked.specs.Tests.{sameNumbers, same-numbers, sameTold, same-told, walks, walks-by}
 
 -- A call of one of the functions; searches are lent `route`
 pub data Call : Type 0 where
@@ -189,7 +188,7 @@ pub table-right : Each Right table
 unfolding
     table allPass passes hall reweightedHall oneWay zeros behind west hallBoxes raisedBoxes fullBoxes treeBoxes triangle detour triangleBoxes mendedBoxes
     orTold answerOf searchTold boxedTold drawnTo buildTold updateTold lowestNode orArc lowestArc checkTold membersFrom
-    networkJudged searchJudged boxedJudged buildJudged checkJudged updateJudged each smaller larger
+    networkJudged placedJudged shapedJudged searchJudged boxedJudged buildJudged checkJudged updateJudged each smaller larger
     before startOf labelled offered marked arcStep relaxed settleOf better leaderOf nearestOf afterPick runOf
     fits firstOf arcFits intoOf afterInto traceOf onShortest leadsAt lengthsTo grownIf grownBy missesB
 table-right = each-right table refl

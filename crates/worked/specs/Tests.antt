@@ -7,11 +7,9 @@ use native.Mathlib.Omega.{arith}
 use borrow.Author.Tests.{eqb-true, leb-true}
 use lib.Dec.{eqb, leb}
 use lib.IntN.{ℤ, pos, negsuc}
-use Rattle.rules.specs.declared.Judged.{Judged}
-use Rattle.rules.specs.declared.Judged.the-variants.{Fine, Refused}
+use Rattle.rules.proofs.AndLaws.{and-true}
 use Rattle.walks.specs.Walk.{WalkBy, by-none, by-arc}
 use Rattle.walks.specs.Rows.{Rows, at, network}
-use Rattle.settling.specs.Choice.{and-true}
 use Rattle.worked.specs.Computed.{Told}
 
 -- ---- The same numbers, rows and replies
@@ -67,16 +65,6 @@ same-told a b t =
 
     made : {n n′ : ℕ} {v v′ w w′ : List ℕ} {z z′ : List ℤ} → n ≡ n′ → v ≡ v′ → w ≡ w′ → z ≡ z′ → make n v w z ≡ make n′ v′ w′ z′
     made p q r s = rw (p, q, r, s)
-
--- ---- Judged fine
-
-abbrev pub isFine : Judged → Bool
-isFine Fine = true
-isFine (Refused r) = false
-
-pub is-fine : (j : Judged) → isFine j ≡ true → j ≡ Fine
-is-fine Fine t = refl
-is-fine (Refused r) t = absurd (false≢true t)
 
 -- ---- A walk by arcs, of a length
 

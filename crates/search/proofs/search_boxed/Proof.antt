@@ -8,7 +8,7 @@ use Rattle.geometry.proofs.Signed.{back}
 use Rattle.geometry.specs.Row.{coordinate}
 use Rattle.walks.specs.Rows.{rows}
 use Rattle.search.specs.Says.{refused, answered}
-use Rattle.search.specs.JudgeLaws.{Lent, boxed-fine}
+use Rattle.judging.proofs.FineLaws.{SearchLent, boxed-fine}
 use Rattle.search.specs.Networks.{answers-alike, held-arcs}
 use Rattle.search.proofs.search_boxed.Statement.{statement}
 use Rattle.search.proofs.search_boxed.Tie as tie
@@ -17,7 +17,7 @@ use Rattle.search.proofs.search_boxed.Tie as tie
 fine :
     (c : tie.After-enum-told) →
     let a = c .before .before .before .before .before .before .before .args in
-    Lent (a .n) (a .m) (rows (a .tails .now) (a .heads .now) (a .weights .now)) (a .s) (a .t) (length (a .route .now))
+    SearchLent (a .n) (a .m) (rows (a .tails .now) (a .heads .now) (a .weights .now)) (a .s) (a .t) (length (a .route .now))
     × (a .n ≤ length (a .x .now))
     × (a .n ≤ length (a .y .now))
     × (4 * a .m ≤ length (a .boxes .now))

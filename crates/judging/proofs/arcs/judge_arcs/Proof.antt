@@ -1,0 +1,96 @@
+-- `judging::arcs::judge_arcs` meets its contract. The loop's invariant: the arcs up to i are good.
+use Prim.Native.Nat.{_+_, _-_, _≤_}
+use mathlib.Core.Path.{_≡_, sym, _∙_}
+use native.Mathlib.Omega.{arith}
+use borrow.Author.Tests.{not-true, not-false}
+use Rattle.rules.specs.declared.Judged.the-variants.{Fine}
+use Rattle.rules.proofs.JudgingLaws.{is-fine, each-none, each-more, each-first}
+use Rattle.walks.specs.Rows.{rows}
+use Rattle.judging.specs.Order.{arcs}
+use Rattle.judging.proofs.NextLaws.{arc-next}
+use borrow.Author.Needs.{needs}
+use Rattle.judging.proofs.arcs.judge_arcs.Statement.{statement}
+use Rattle.judging.proofs.arcs.judge_arcs.Tie as tie
+
+abbrev Inv-loop : tie.InvT-loop
+Inv-loop n m tails heads weights places i₀ i = (i ≤ m) × (arcs n i (rows tails heads weights) ≡ Fine)
+
+abbrev μ-loop : tie.MeasureT-loop
+μ-loop n m tails heads weights places i₀ i = m - i
+
+returns : tie.Need-returns Inv-loop μ-loop
+returns c = sym (is-fine _ (sym (c .before .all-arcs-good .ensures) ∙ c .if1 .taken))
+
+loop-holds : tie.Need-loop-holds Inv-loop μ-loop
+loop-holds c = (omega arith, each-none _ _)
+
+mul-good-arc : tie.Need-mul-good-arc Inv-loop μ-loop
+mul-good-arc c = omega arith
+
+shared-slice-read-good-arc : tie.Need-shared-slice-read-good-arc Inv-loop μ-loop
+shared-slice-read-good-arc c = omega arith
+
+mul-good-arc-2 : tie.Need-mul-good-arc-2 Inv-loop μ-loop
+mul-good-arc-2 c = omega arith
+
+shared-slice-read-good-arc-2 : tie.Need-shared-slice-read-good-arc-2 Inv-loop μ-loop
+shared-slice-read-good-arc-2 c = omega arith
+
+mul-good-arc-3 : tie.Need-mul-good-arc-3 Inv-loop μ-loop
+mul-good-arc-3 c = omega arith
+
+shared-slice-read-good-arc-3 : tie.Need-shared-slice-read-good-arc-3 Inv-loop μ-loop
+shared-slice-read-good-arc-3 c = omega arith
+
+add-t20 : tie.Need-add-t20 Inv-loop μ-loop
+add-t20 c = omega arith
+
+cast-t21 : tie.Need-cast-t21 Inv-loop μ-loop
+cast-t21 c = omega arith
+
+returns-2 : tie.Need-returns-2 Inv-loop μ-loop
+returns-2 c =
+    let a = c .before .before .before .before .before .before .before .before .before .before .before .before .args in
+    let R = rows (a .tails .now) (a .heads .now) (a .weights .now) in
+    sym (each-first _ _ (c .before .before .before .before .before .before .loop .i) (a .m) (c .before .before .before .before .before .before .loop .inv .1) (sym (arc-next (a .n) R (c .before .before .before .before .before .before .loop .i)) ∙ (sym (c .before .good-arc .ensures) ∙ not-true _ (c .if2 .taken))) (omega arith))
+
+add-i : tie.Need-add-i Inv-loop μ-loop
+add-i c = omega arith
+
+loop-less : tie.Need-loop-less Inv-loop μ-loop
+loop-less c = omega arith
+
+loop-again : tie.Need-loop-again Inv-loop μ-loop
+loop-again c =
+    let a = c .before .before .before .before .before .before .before .before .before .before .before .before .args in
+    let R = rows (a .tails .now) (a .heads .now) (a .weights .now) in
+    (omega arith, each-more _ _ (c .before .before .before .before .before .before .loop .i) (c .before .before .before .before .before .before .loop .inv .1) (sym (arc-next (a .n) R (c .before .before .before .before .before .before .loop .i)) ∙ (sym (c .before .good-arc .ensures) ∙ not-false _ (c .if2 .left))))
+
+returns-3 : tie.Need-returns-3 Inv-loop μ-loop
+returns-3 c =
+    let last : c .before .loop .i ≡ c .before .before .before .before .before .before .before .args .m = omega arith in
+    sym (rw last at (c .before .loop .inv .1))
+
+pub judge-arcs-spec : {M : Type 1} → statement M
+judge-arcs-spec =
+    tie.close
+    (tie.spec
+    Inv-loop
+    μ-loop
+    (λ c κs. search needs)
+    returns
+    loop-holds
+    mul-good-arc
+    shared-slice-read-good-arc
+    mul-good-arc-2
+    shared-slice-read-good-arc-2
+    mul-good-arc-3
+    shared-slice-read-good-arc-3
+    (λ c κs. search needs)
+    add-t20
+    cast-t21
+    returns-2
+    add-i
+    loop-less
+    loop-again
+    returns-3)

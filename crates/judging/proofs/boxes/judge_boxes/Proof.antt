@@ -1,0 +1,76 @@
+-- `judging::boxes::judge_boxes` meets its contract. The loop's invariant: the boxes of the arcs up to e are well shaped.
+use Prim.Native.Nat.{_+_, _-_, _≤_}
+use mathlib.Core.Path.{_≡_, sym, _∙_}
+use native.Mathlib.Omega.{arith}
+use borrow.Author.Tests.{not-true, not-false}
+use Rattle.rules.specs.declared.Judged.the-variants.{Fine}
+use Rattle.rules.proofs.JudgingLaws.{is-fine, each-none, each-more, each-first}
+use Rattle.judging.specs.Order.{shapes}
+use Rattle.judging.proofs.NextLaws.{box-next}
+use borrow.Author.Needs.{needs}
+use Rattle.judging.proofs.boxes.judge_boxes.Statement.{statement}
+use Rattle.judging.proofs.boxes.judge_boxes.Tie as tie
+
+abbrev Inv-loop : tie.InvT-loop
+Inv-loop m boxes e₀ e = (e ≤ m) × (shapes e boxes ≡ Fine)
+
+abbrev μ-loop : tie.MeasureT-loop
+μ-loop m boxes e₀ e = m - e
+
+returns : tie.Need-returns Inv-loop μ-loop
+returns c = sym (is-fine _ (sym (c .before .all-boxes-good .ensures) ∙ c .if1 .taken))
+
+loop-holds : tie.Need-loop-holds Inv-loop μ-loop
+loop-holds c = (omega arith, each-none _ _)
+
+mul-good-box : tie.Need-mul-good-box Inv-loop μ-loop
+mul-good-box c = omega arith
+
+good-box-requires : tie.Need-good-box-requires Inv-loop μ-loop
+good-box-requires c κs = omega arith
+
+add-t8 : tie.Need-add-t8 Inv-loop μ-loop
+add-t8 c = omega arith
+
+cast-t9 : tie.Need-cast-t9 Inv-loop μ-loop
+cast-t9 c = omega arith
+
+returns-2 : tie.Need-returns-2 Inv-loop μ-loop
+returns-2 c =
+    let a = c .before .before .before .before .before .before .args in
+    sym (each-first _ _ (c .before .before .before .loop .e) (a .m) (c .before .before .before .loop .inv .1) (sym (box-next (a .boxes .now) (c .before .before .before .loop .e)) ∙ (sym (c .before .good-box .ensures) ∙ not-true _ (c .if2 .taken))) (omega arith))
+
+add-e : tie.Need-add-e Inv-loop μ-loop
+add-e c = omega arith
+
+loop-less : tie.Need-loop-less Inv-loop μ-loop
+loop-less c = omega arith
+
+loop-again : tie.Need-loop-again Inv-loop μ-loop
+loop-again c =
+    let a = c .before .before .before .before .before .before .args in
+    (omega arith, each-more _ _ (c .before .before .before .loop .e) (c .before .before .before .loop .inv .1) (sym (box-next (a .boxes .now) (c .before .before .before .loop .e)) ∙ (sym (c .before .good-box .ensures) ∙ not-false _ (c .if2 .left))))
+
+returns-3 : tie.Need-returns-3 Inv-loop μ-loop
+returns-3 c =
+    let last : c .before .loop .e ≡ c .before .before .before .before .args .m = omega arith in
+    sym (rw last at (c .before .loop .inv .1))
+
+pub judge-boxes-spec : {M : Type 1} → statement M
+judge-boxes-spec =
+    tie.close
+    (tie.spec
+    Inv-loop
+    μ-loop
+    (λ c κs. search needs)
+    returns
+    loop-holds
+    mul-good-box
+    good-box-requires
+    add-t8
+    cast-t9
+    returns-2
+    add-e
+    loop-less
+    loop-again
+    returns-3)

@@ -1,0 +1,72 @@
+-- `judging::places::judge_places` meets its contract. The loop's invariant: the nodes up to i are good.
+use Prim.Native.Nat.{_+_, _-_, _≤_}
+use mathlib.Core.Path.{_≡_, sym, _∙_}
+use native.Mathlib.Omega.{arith}
+use borrow.Author.Tests.{not-true, not-false}
+use Rattle.rules.specs.declared.Judged.the-variants.{Fine}
+use Rattle.rules.proofs.JudgingLaws.{is-fine, each-none, each-more, each-first}
+use Rattle.judging.specs.Order.{coordinates}
+use Rattle.judging.proofs.NextLaws.{place-next}
+use borrow.Author.Needs.{needs}
+use Rattle.judging.proofs.places.judge_places.Statement.{statement}
+use Rattle.judging.proofs.places.judge_places.Tie as tie
+
+abbrev Inv-loop : tie.InvT-loop
+Inv-loop n x y i₀ i = (i ≤ n) × (coordinates i x y ≡ Fine)
+
+abbrev μ-loop : tie.MeasureT-loop
+μ-loop n x y i₀ i = n - i
+
+returns : tie.Need-returns Inv-loop μ-loop
+returns c = sym (is-fine _ (sym (c .before .all-places-good .ensures) ∙ c .if1 .taken))
+
+loop-holds : tie.Need-loop-holds Inv-loop μ-loop
+loop-holds c = (omega arith, each-none _ _)
+
+good-place-requires : tie.Need-good-place-requires Inv-loop μ-loop
+good-place-requires c κs = omega arith
+
+add-t8 : tie.Need-add-t8 Inv-loop μ-loop
+add-t8 c = omega arith
+
+cast-t9 : tie.Need-cast-t9 Inv-loop μ-loop
+cast-t9 c = omega arith
+
+returns-2 : tie.Need-returns-2 Inv-loop μ-loop
+returns-2 c =
+    let a = c .before .before .before .before .before .before .args in
+    sym (each-first _ _ (c .before .before .before .loop .i) (a .n) (c .before .before .before .loop .inv .1) (sym (place-next (a .x .now) (a .y .now) (c .before .before .before .loop .i)) ∙ (sym (c .before .good-place .ensures) ∙ not-true _ (c .if2 .taken))) (omega arith))
+
+add-i : tie.Need-add-i Inv-loop μ-loop
+add-i c = omega arith
+
+loop-less : tie.Need-loop-less Inv-loop μ-loop
+loop-less c = omega arith
+
+loop-again : tie.Need-loop-again Inv-loop μ-loop
+loop-again c =
+    let a = c .before .before .before .before .before .before .args in
+    (omega arith, each-more _ _ (c .before .before .before .loop .i) (c .before .before .before .loop .inv .1) (sym (place-next (a .x .now) (a .y .now) (c .before .before .before .loop .i)) ∙ (sym (c .before .good-place .ensures) ∙ not-false _ (c .if2 .left))))
+
+returns-3 : tie.Need-returns-3 Inv-loop μ-loop
+returns-3 c =
+    let last : c .before .loop .i ≡ c .before .before .before .before .args .n = omega arith in
+    sym (rw last at (c .before .loop .inv .1))
+
+pub judge-places-spec : {M : Type 1} → statement M
+judge-places-spec =
+    tie.close
+    (tie.spec
+    Inv-loop
+    μ-loop
+    (λ c κs. search needs)
+    returns
+    loop-holds
+    good-place-requires
+    add-t8
+    cast-t9
+    returns-2
+    add-i
+    loop-less
+    loop-again
+    returns-3)
