@@ -19,7 +19,7 @@ use Rattle.walks.specs.LeastLaws.{best-length, best-count}
 use Rattle.walks.specs.RouteLaws.{route-unique}
 use Rattle.walks.specs.Pruning.{SameAnswers}
 use Rattle.geometry.specs.Row.{goodPlace, goodBox}
-use Rattle.settling.specs.Choice.{and-yes}
+use Rattle.settling.proofs.Choice.{and-yes}
 use Rattle.judging.specs.Judge.{networkJudged}
 use Rattle.search.specs.Judge.{boxRowsLong, searchJudged, boxedJudged}
 use Rattle.judging.specs.JudgeLaws.{both-fine, network-fine}

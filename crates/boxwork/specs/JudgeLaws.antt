@@ -18,7 +18,7 @@ use Rattle.walks.specs.Rows.{Rows, Sound, SoundArc, at}
 use Rattle.geometry.specs.Box.{Within, WellShaped}
 use Rattle.geometry.specs.Row.{coordinate, boxOf, goodPlace, goodBox}
 use Rattle.geometry.proofs.Tests.{place-yes, yes-within, shaped-yes, yes-shaped}
-use Rattle.settling.specs.Choice.{and-true, and-yes}
+use Rattle.settling.proofs.Choice.{and-true, and-yes}
 use Rattle.judging.specs.Judge.{sizes, arcRowsLong, goodArc, arcs, networkJudged}
 use Rattle.search.specs.Judge.{boxRowsLong}
 use Rattle.judging.specs.JudgeLaws.{both-fine, passed, last, network-fine}

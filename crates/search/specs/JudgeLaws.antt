@@ -15,7 +15,7 @@ use Rattle.rules.specs.declared.Refusal.{Refusal}
 use Rattle.rules.specs.declared.Refusal.the-variants.{RowTooShort, BadCoordinate, BadBox}
 use Rattle.geometry.specs.Row.{goodPlace, goodBox}
 use Rattle.walks.specs.Rows.{Rows, Sound, SoundArc, at}
-use Rattle.settling.specs.Choice.{and-true}
+use Rattle.settling.proofs.Choice.{and-true}
 use Rattle.judging.specs.JudgeLaws.{last, both-fine, passed, network-fine}
 use Rattle.judging.specs.Judge.{sizes, arcRowsLong, goodArc, arcs, networkJudged}
 use Rattle.search.specs.Judge.{boxRowsLong, ends, searchJudged, boxedJudged}

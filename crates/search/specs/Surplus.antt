@@ -15,9 +15,9 @@ use Rattle.rules.specs.declared.Judged.the-variants.{Fine}
 use Rattle.walks.specs.Walk.{Net, kept}
 use Rattle.walks.specs.Rows.{Rows, network}
 use Rattle.walks.specs.Search.{Found, found-unique, not-both}
-use Rattle.settling.specs.Choice.{either}
+use Rattle.settling.proofs.Choice.{either}
 use Rattle.settling.specs.Run.{searchOf}
-use Rattle.settling.specs.Right.{search-found, search-missed}
+use Rattle.settling.proofs.SearchIsRight.{search-found, search-missed}
 use Rattle.search.specs.Judge.{searchJudged, boxedJudged}
 use Rattle.search.specs.JudgeLaws.{Lent, search-fine, boxed-fine}
 use Rattle.search.specs.Says.{Answers, found, none, Says, refused, answered, SearchSays, BoxedSays, holding}

@@ -14,7 +14,7 @@ use Rattle.walks.specs.Walk.{Net, kept}
 use Rattle.walks.specs.Rows.{Rows, network}
 use Rattle.geometry.specs.Box.{Box}
 use Rattle.geometry.specs.Row.{boxOf}
-use Rattle.settling.specs.Choice.{cond-by}
+use Rattle.settling.proofs.Choice.{cond-by}
 use Rattle.settling.specs.Run.{searchOf}
 use Rattle.search.specs.Judge.{searchJudged, boxedJudged}
 use Rattle.search.specs.JudgeLaws.{Lent, search-fine, boxed-fine}

@@ -16,7 +16,7 @@ use Rattle.walks.specs.Walk.{WalkBy}
 use Rattle.walks.specs.Rows.{network}
 use Rattle.walks.specs.Through.{InS}
 use Rattle.geometry.specs.Hull.{smaller, larger}
-use Rattle.settling.specs.Choice.{and-true}
+use Rattle.settling.proofs.Choice.{and-true}
 use Rattle.settling.specs.Labels.{before, startOf, labelled, offered, marked}
 use Rattle.settling.specs.Settle.{arcStep, relaxed, settleOf}
 use Rattle.settling.specs.Nearest.{better, leaderOf, nearestOf}

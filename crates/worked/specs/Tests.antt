@@ -11,7 +11,7 @@ use Rattle.rules.specs.declared.Judged.{Judged}
 use Rattle.rules.specs.declared.Judged.the-variants.{Fine, Refused}
 use Rattle.walks.specs.Walk.{WalkBy, by-none, by-arc}
 use Rattle.walks.specs.Rows.{Rows, at, network}
-use Rattle.settling.specs.Choice.{and-true}
+use Rattle.settling.proofs.Choice.{and-true}
 use Rattle.worked.specs.Computed.{Told}
 
 -- ---- The same numbers, rows and replies

@@ -6,7 +6,7 @@ use borrow.Author.Needs.{needs}
 use lib.ListN.{length}
 use lib.Dec.{leb}
 use Rattle.rules.specs.declared.Judged.the-variants.{Fine}
-use Rattle.settling.specs.Choice.{and-true}
+use Rattle.settling.proofs.Choice.{and-true}
 use Rattle.walks.specs.Rows.{rows}
 use Rattle.judging.specs.Judge.{networkJudged}
 use Rattle.search.specs.Judge.{boxRowsLong}

@@ -7,12 +7,13 @@ use mathlib.Core.Logic.{⊎-elim}
 use mathlib.Core.List.{[]}
 use lib.ListN.{getD}
 use Rattle.walks.specs.Rows.{rows, SoundArc, arc-at}
-use Rattle.settling.specs.Chain.{From}
-use Rattle.settling.specs.Front.{labels}
+use Rattle.frontier.specs.Chain.{From}
+use Rattle.settling.specs.Labels.{labels}
 use Rattle.settling.specs.Trace.{arcFits, intoOf}
-use Rattle.settling.specs.TraceLaws.{Rest, hit, miss, over, into-whole, arc-shut, arc-fits}
-use Rattle.settling.specs.Toward.{keeps, room-less}
-use Rattle.settling.proofs.ChainLaws.{rest-from}
+use Rattle.settling.proofs.TraceSteps.{Rest, hit, miss, over, into-whole, arc-shut, arc-fits}
+use Rattle.settling.specs.Toward.{keeps}
+use Rattle.settling.proofs.Widen.{room-less}
+use Rattle.settling.proofs.AlongChains.{rest-from}
 use Rattle.settling.proofs.trace.arc_into.Statement.{statement}
 use Rattle.settling.proofs.trace.arc_into.Tie as tie
 

@@ -6,11 +6,11 @@ use mathlib.Core.Path.{_≡_, refl, sym, _∙_}
 use mathlib.Core.List.{[]}
 use lib.ListN.{length as length′, length-set, length-replicate}
 use Rattle.walks.specs.Rows.{rows}
-use Rattle.settling.specs.Front.{labels}
+use Rattle.settling.specs.Labels.{labels}
 use Rattle.settling.specs.Trace.{traceOf}
-use Rattle.settling.specs.TraceLaws.{into-in, trace-over, trace-stuck, trace-on}
+use Rattle.settling.proofs.TraceSteps.{into-in, trace-over, trace-stuck, trace-on}
 use Rattle.settling.specs.Toward.{keeps}
-use Rattle.settling.proofs.ChainLaws.{heads-ends, trace-unmarked}
+use Rattle.settling.proofs.AlongChains.{heads-ends, trace-unmarked}
 use Rattle.settling.proofs.trace.trace.Statement.{statement}
 use Rattle.settling.proofs.trace.trace.Tie as tie
 
