@@ -16,12 +16,6 @@ abbrev μ-loop : tie.MeasureT-loop
 loop-holds : tie.Need-loop-holds Inv-loop μ-loop
 loop-holds c = (omega arith, rw (c .pre .1) (linked-none _ _ _ (c .pre .2)))
 
-mul-at : tie.Need-mul-at Inv-loop μ-loop
-mul-at c = omega (arith, c .before .before .pre .0)
-
-shared-slice-read-at : tie.Need-shared-slice-read-at Inv-loop μ-loop
-shared-slice-read-at c = omega (arith, c .before .before .before .pre .0)
-
 cast-at : tie.Need-cast-at Inv-loop μ-loop
 cast-at c =
     let end = c .before .before .before .pre .0 .node (c .before .before .loop .j - 1) (omega arith) in omega (arith, c .before .before .before .pre .0)
@@ -72,9 +66,7 @@ link-spec =
     Inv-loop
     μ-loop
     loop-holds
-    (λ c. search needs)
-    mul-at
-    shared-slice-read-at
+    (λ c. search needs) (λ c. search needs) (λ c. search needs)
     cast-at
     sub-at
     mul-after

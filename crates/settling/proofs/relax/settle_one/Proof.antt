@@ -15,6 +15,7 @@ use Rattle.settling.proofs.SettleSteps.{relaxed-none, settle-all}
 use Rattle.settling.proofs.TreeFollows.{front-marked}
 use Rattle.settling.proofs.AlongChains.{relaxed-from, turn-shut, turn-open}
 use Rattle.settling.proofs.Widen.{room-less}
+use borrow.Author.Needs.{needs}
 use Rattle.settling.proofs.relax.settle_one.Statement.{statement}
 use Rattle.settling.proofs.relax.settle_one.Tie as tie
 
@@ -41,41 +42,9 @@ following :
     let j = c .before .loop .j in From (a .task .m) (a .tails .now) (a .u) (j + 1) (getD (a .next .now) j 0)
 following c = rw (c .before .loop .inv .1 (c .loop-test .taken)) at (c .before .before .before .before .before .before .before .before .before .before .pre .1 .nexts (c .before .loop .j) (c .loop-test .taken))
 
-sub-at : tie.Need-sub-at Inv-loop μ-loop
-sub-at c =
-    let sound = c .before .before .before .pre .0 .sound in let ready = c .before .before .before .pre .2 in omega (arith, ready .low, ready .high, sound .nodes-high)
-
-element-write-settled : tie.Need-element-write-settled Inv-loop μ-loop
-element-write-settled c =
-    let sound = c .before .before .before .pre .0 .sound in let ready = c .before .before .before .pre .2 in omega (arith, ready .low, ready .high, sound .nodes-high)
-
 put-requires : tie.Need-put-requires Inv-loop μ-loop
 put-requires c κs =
     let sound = c .before .before .before .before .pre .0 .sound in let ready = c .before .before .before .before .pre .2 in (omega (arith, ready .low, ready .high, sound .nodes-high), c .before .before .before .before .pre .3 .mended)
-
-mul-l : tie.Need-mul-l Inv-loop μ-loop
-mul-l c =
-    let sound = c .before .before .before .before .before .pre .0 .sound in let ready = c .before .before .before .before .before .pre .2 in omega (arith, ready .low, ready .high, sound .nodes-high)
-
-element-copy-out-l : tie.Need-element-copy-out-l Inv-loop μ-loop
-element-copy-out-l c =
-    let sound = c .before .before .before .before .before .pre .0 .sound in let ready = c .before .before .before .before .before .pre .2 in omega (arith, ready .low, ready .high, sound .nodes-high)
-
-mul-k : tie.Need-mul-k Inv-loop μ-loop
-mul-k c =
-    let sound = c .before .before .before .before .before .before .pre .0 .sound in let ready = c .before .before .before .before .before .before .pre .2 in omega (arith, ready .low, ready .high, sound .nodes-high)
-
-element-copy-out-k : tie.Need-element-copy-out-k Inv-loop μ-loop
-element-copy-out-k c =
-    let sound = c .before .before .before .before .before .before .pre .0 .sound in let ready = c .before .before .before .before .before .before .pre .2 in omega (arith, ready .low, ready .high, sound .nodes-high)
-
-mul-j : tie.Need-mul-j Inv-loop μ-loop
-mul-j c =
-    let sound = c .before .before .before .before .before .before .before .pre .0 .sound in let ready = c .before .before .before .before .before .before .before .pre .2 in omega (arith, ready .low, ready .high, sound .nodes-high)
-
-element-copy-out-j : tie.Need-element-copy-out-j Inv-loop μ-loop
-element-copy-out-j c =
-    let sound = c .before .before .before .before .before .before .before .pre .0 .sound in let ready = c .before .before .before .before .before .before .before .pre .2 in omega (arith, ready .low, ready .high, sound .nodes-high)
 
 cast-j : tie.Need-cast-j Inv-loop μ-loop
 cast-j c =
@@ -99,40 +68,16 @@ loop-holds c =
       },
     )
 
-add-passes : tie.Need-add-passes Inv-loop μ-loop
-add-passes c =
-    let sound = c .before .before .before .before .before .before .before .before .before .before .pre .0 .sound in omega (arith, sound .arcs-high)
-
 passes-requires : tie.Need-passes-requires Inv-loop μ-loop
 passes-requires c κs =
     let a = c .before .before .before .before .before .before .before .before .before .before .args in (omega arith, room-less (a .task .toward) (a .boxes .now) (a .task .m) (c .before .loop .j + 1) (omega arith) (c .before .before .before .before .before .before .before .before .before .before .pre .0 .room))
 
-mul-v : tie.Need-mul-v Inv-loop μ-loop
-mul-v c =
-    let sound = c .before .before .before .before .before .before .before .before .before .before .before .before .pre .0 .sound in omega (arith, sound)
-
-shared-slice-read-v : tie.Need-shared-slice-read-v Inv-loop μ-loop
-shared-slice-read-v c =
-    let sound = c .before .before .before .before .before .before .before .before .before .before .before .before .before .pre .0 .sound in omega (arith, sound)
-
 cast-v : tie.Need-cast-v Inv-loop μ-loop
 cast-v c = let a = arc (c .before .before .before) in omega arith
 
-mul-w : tie.Need-mul-w Inv-loop μ-loop
-mul-w c =
-    let sound = c .before .before .before .before .before .before .before .before .before .before .before .before .before .pre .0 .sound in omega (arith, sound)
-
-shared-slice-read-w : tie.Need-shared-slice-read-w Inv-loop μ-loop
-shared-slice-read-w c =
-    let sound = c .before .before .before .before .before .before .before .before .before .before .before .before .before .before .pre .0 .sound in omega (arith, sound)
-
 add-offer : tie.Need-add-offer Inv-loop μ-loop
 add-offer c =
-    let sound = c .before .before .before .before .before .before .before .before .before .before .before .before .before .before .before .before .before .before .pre .0 .sound in let ready = c .before .before .before .before .before .before .before .before .before .before .before .before .before .before .before .before .before .before .pre .2 in let a = arc (c .before .before .before .before .before .before .before .before) in omega (arith, ready .length, ready .arcs, sound .nodes-high)
-
-add-offer-2 : tie.Need-add-offer-2 Inv-loop μ-loop
-add-offer-2 c =
-    let sound = c .before .before .before .before .before .before .before .before .before .before .before .before .before .before .before .before .before .before .pre .0 .sound in let ready = c .before .before .before .before .before .before .before .before .before .before .before .before .before .before .before .before .before .before .pre .2 in let a = arc (c .before .before .before .before .before .before .before .before) in omega (arith, ready .length, ready .arcs, sound .nodes-high)
+    let ready = c .before .before .before .before .before .before .before .before .before .before .before .before .before .before .before .before .before .before .pre .2 in let a = arc (c .before .before .before .before .before .before .before .before) in omega (arith, ready .length)
 
 offer-requires : tie.Need-offer-requires Inv-loop μ-loop
 offer-requires c κs =
@@ -147,14 +92,6 @@ offer-requires c κs =
       },
       c .before .before .before .before .before .before .before .before .before .loop .inv .2 .front,
     )
-
-mul-j-2 : tie.Need-mul-j-2 Inv-loop μ-loop
-mul-j-2 c =
-    let sound = c .before .before .before .before .before .before .before .before .before .before .before .before .pre .0 .sound in omega (arith, sound .arcs-high)
-
-element-copy-out-j-2 : tie.Need-element-copy-out-j-2 Inv-loop μ-loop
-element-copy-out-j-2 c =
-    let sound = c .before .before .before .before .before .before .before .before .before .before .before .before .pre .0 .sound in omega (arith, sound .arcs-high)
 
 cast-j-2 : tie.Need-cast-j-2 Inv-loop μ-loop
 cast-j-2 c =
@@ -193,29 +130,20 @@ settle-one-spec =
     (tie.spec
     Inv-loop
     μ-loop
-    sub-at
-    element-write-settled
+    (λ c. search needs) (λ c. search needs)
     put-requires
-    mul-l
-    element-copy-out-l
-    mul-k
-    element-copy-out-k
-    mul-j
-    element-copy-out-j
+    (λ c. search needs) (λ c. search needs) (λ c. search needs) (λ c. search needs) (λ c. search needs) (λ c. search needs)
     cast-j
     loop-holds
-    add-passes
+    (λ c. search needs)
     passes-requires
-    mul-v
-    shared-slice-read-v
+    (λ c. search needs) (λ c. search needs)
     cast-v
-    mul-w
-    shared-slice-read-w
+    (λ c. search needs) (λ c. search needs)
     add-offer
-    add-offer-2
+    (λ c. search needs)
     offer-requires
-    mul-j-2
-    element-copy-out-j-2
+    (λ c. search needs) (λ c. search needs)
     cast-j-2
     loop-less
     loop-again

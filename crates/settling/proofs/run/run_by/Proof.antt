@@ -9,6 +9,7 @@ use Rattle.settling.specs.Round.{Round}
 use Rattle.settling.proofs.Widen.{widened}
 use Rattle.settling.proofs.AlongChains.{tails-ends}
 use Rattle.settling.proofs.Rounds.{round-start}
+use borrow.Author.Needs.{needs}
 use Rattle.settling.proofs.run.run_by.Statement.{statement}
 use Rattle.settling.proofs.run.run_by.Tie as tie
 
@@ -19,32 +20,13 @@ Inv-loop rounds task tails heads weights boxes first next tree₀ labels₀ coun
 abbrev μ-loop : tie.MeasureT-loop
 μ-loop rounds task tails heads weights boxes first next tree₀ labels₀ count₀ tree labels count = task .n - count
 
-cast-first : tie.Need-cast-first Inv-loop μ-loop
-cast-first c = let p = c .before .before .before .before .pre .2 in omega (arith, p .sound .arcs-high)
-
 link-requires : tie.Need-link-requires Inv-loop μ-loop
 link-requires c κs =
     (tails-ends (widened (c .before .before .before .before .before .before .pre .2 .sound)), refl, length-replicate {A = ℕ} 2_048 0)
 
-sub-put : tie.Need-sub-put Inv-loop μ-loop
-sub-put c =
-    let p = c .before .before .before .before .before .before .before .before .before .pre .2 in omega (arith, p .source-low, p .source-high, p .sound .nodes-high)
-
-sub-key : tie.Need-sub-key Inv-loop μ-loop
-sub-key c =
-    let p = c .before .before .before .before .before .before .before .before .before .before .pre .2 in omega (arith, p .source-low, p .source-high, p .sound .nodes-high)
-
-key-requires : tie.Need-key-requires Inv-loop μ-loop
-key-requires c κs =
-    let p = c .before .before .before .before .before .before .before .before .before .before .pre .2 in omega (arith, p .source-low, p .source-high, p .sound .nodes-high)
-
 put-requires : tie.Need-put-requires Inv-loop μ-loop
 put-requires c κs =
     let p = c .before .before .before .before .before .before .before .before .before .before .before .pre .2 in (omega (arith, p .source-low, p .source-high, p .sound .nodes-high), mended-start)
-
-start-requires : tie.Need-start-requires Inv-loop μ-loop
-start-requires c κs =
-    let p = c .before .before .before .before .before .before .before .before .before .before .before .before .pre .2 in (p .source-low, omega (arith, p .source-high, p .sound .nodes-high))
 
 loop-holds : tie.Need-loop-holds Inv-loop μ-loop
 loop-holds c =
@@ -72,13 +54,11 @@ run-by-spec =
     (tie.spec
     Inv-loop
     μ-loop
-    cast-first
+    (λ c. search needs)
     link-requires
-    sub-put
-    sub-key
-    key-requires
+    (λ c. search needs) (λ c. search needs) (λ c κs. search needs)
     put-requires
-    start-requires
+    (λ c κs. search needs)
     loop-holds
     settle-requires
     returns

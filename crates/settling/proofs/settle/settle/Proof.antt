@@ -56,14 +56,6 @@ add-done c =
     let node = c .before .before .before .before .before .before .before .before .p .given .1 in
     omega (arith, round-below (i .inv .1) told node, i .inv .1 .posed .sound .nodes-high)
 
-sub-left : tie.Need-sub-left Inv-loop μ-loop
-sub-left c =
-    omega (arith, c .before .before .before .before .before .before .before .before .before .before .before .before .loop-test .taken)
-
-loop-less : tie.Need-loop-less Inv-loop μ-loop
-loop-less c =
-    omega (arith, c .before .before .before .before .before .before .before .before .before .before .before .before .loop-test .taken)
-
 loop-again : tie.Need-loop-again Inv-loop μ-loop
 loop-again c =
     let i = c .before .before .before .before .before .before .before .before .before .before .before .before .before .loop in
@@ -90,7 +82,6 @@ settle-spec =
     returns-2
     settle-one-requires
     add-done
-    sub-left
-    loop-less
+    (λ c. search needs) (λ c. search needs)
     loop-again
     returns-3)
