@@ -10,7 +10,7 @@ use lib.IntN.{ℤ}
 use Rattle.geometry.specs.Box.{Box, Upright, Smallest}
 use Rattle.geometry.specs.Row.{coordinate}
 use Rattle.geometry.proofs.SmallestLaws.{IsPlace, smallest-same, grown-smallest, grown-upright}
-use Rattle.settling.specs.Choice.{cond-by}
+use Rattle.settling.proofs.Choice.{cond-by}
 use Rattle.drawing.specs.Grown.{grownIf, grownBy}
 
 -- (px, py) is the place of a node of 1..n to which the arc leads

@@ -15,8 +15,8 @@ use Rattle.settling.specs.declared.Outcome.{Outcome}
 use Rattle.settling.specs.Labels.{lengthOf, arcsOf}
 use Rattle.settling.specs.Run.{searchOf}
 use Rattle.settling.specs.Trace.{traceOf}
-use Rattle.settling.specs.Choice.{either}
-use Rattle.settling.specs.Right.{search-found, search-missed}
+use Rattle.settling.proofs.Choice.{either}
+use Rattle.settling.proofs.SearchIsRight.{search-found, search-missed}
 use Rattle.search.specs.declared.Answer.the-variants.{Found, Refused}
 use Rattle.search.specs.Paper.{paper}
 use Rattle.search.specs.Says.{Answers, found, none}

@@ -15,9 +15,9 @@ use Rattle.rules.specs.declared.Judged.the-variants.{Fine}
 use Rattle.walks.specs.Walk.{Net, kept}
 use Rattle.walks.specs.Rows.{Rows, network}
 use Rattle.walks.specs.Search.{Found, found-unique, not-both}
-use Rattle.settling.specs.Choice.{either}
+use Rattle.settling.proofs.Choice.{either}
 use Rattle.settling.specs.Run.{searchOf}
-use Rattle.settling.specs.Right.{search-found, search-missed}
+use Rattle.settling.proofs.SearchIsRight.{search-found, search-missed}
 use Rattle.judging.specs.Cut.{cut}
 use Rattle.judging.proofs.CutLaws.{place-cut, box-cut, search-judged-cut, boxed-judged-cut}
 use Rattle.judging.proofs.FineLaws.{SearchLent, search-fine, boxed-fine}

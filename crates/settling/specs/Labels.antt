@@ -3,9 +3,14 @@
 -- Assumes nothing.
 use Prim.Native.Nat.{ℕ, _-_}
 use mathlib.Core.Bool.{Bool, true, false, cond}
+use mathlib.Core.List.{List}
 use lib.ListN.{getD, set, replicate}
 use lib.Dec.{ltb, eqb}
 use Rattle.settling.specs.declared.Labels.{Labels}
+
+-- the labels of three rows
+abbrev pub labels : List ℕ → List ℕ → List Bool → Labels
+labels length arcs settled = record { length = length; arcs = arcs; settled = settled }
 
 -- the length of a node that has no label
 abbrev pub none : ℕ

@@ -4,8 +4,8 @@ use mathlib.Core.Bool.{Bool, true, false, cond}
 use lib.Dec.{eqb}
 use Rattle.walks.specs.Rows.{Rows}
 use Rattle.settling.specs.declared.Labels.{Labels}
-use Rattle.settling.specs.declared.Pick.{Pick}
-use Rattle.settling.specs.declared.Pick.the-variants.{Node, Nothing}
+use Rattle.frontier.specs.declared.Pick.{Pick}
+use Rattle.frontier.specs.declared.Pick.the-variants.{Node, Nothing}
 use Rattle.settling.specs.declared.Outcome.{Outcome}
 use Rattle.settling.specs.Labels.{startOf}
 use Rattle.settling.specs.Settle.{settleOf}

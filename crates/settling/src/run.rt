@@ -1,22 +1,69 @@
-// The run: node after node is settled.
+// The run: step after step, nodes are settled.
 ghost use mathlib.Core.Path.{_≡_};
 ghost use Prim.Native.Nat.{_≤_};
 ghost use Rattle.walks.specs.Rows.{rows, Sound};
 ghost use mathlib.Core.Bool.{true};
 ghost use Rattle.settling.specs.Run.{searchOf, labelsOf};
-ghost use Rattle.settling.specs.Toward.{Room, keeps};
+ghost use Rattle.settling.specs.Toward.{Room, Posed, keeps};
+ghost use Rattle.settling.specs.Round.{outcomeOf};
 use crate::Labels;
 use crate::Outcome;
+use crate::Task;
 use crate::Toward;
-use crate::chain::link;
-use crate::front::FAR;
-use crate::front::key;
-use crate::front::put;
+use crate::label::start;
 use crate::settle::settle;
-use crate::settle::start;
+use frontier::chain::link;
+use frontier::tree::FAR;
+use frontier::tree::key;
+use frontier::tree::put;
 
-// How many nodes a search settles in a step.
+// How many nodes a search settles in a step: the labels are copied for each.
 const STEP: usize = 16;
+
+// The run that a task asks, with so many nodes a step.
+fn run_by(
+    rounds: usize,
+    task: Task,
+    tails: &[u32],
+    heads: &[u32],
+    weights: &[u32],
+    boxes: &[i32],
+) -> Outcome
+    requires { ⌜ (1 ≤ rounds) × (rounds ≤ 513) × Posed task (rows (now tails) (now heads) (now weights)) (now boxes) ⌝ }
+    ensures { λ r. ⌜ r ≡ outcomeOf (rows (now (tails .entry)) (now (heads .entry)) (now (weights .entry))) (now (boxes .entry)) task ⌝ }
+{
+    let mut first = [task.m as u32; 512];
+    let mut next = [0u32; 2048];
+    link(task.m, tails, &mut first, &mut next);
+    let mut tree = [FAR; 1024];
+    put(&mut tree, task.s - 1, key(0, 0, task.s - 1));
+    let mut labels = start(task.s);
+    let mut count: usize = 0;
+    loop {
+        let r = settle(
+            labels,
+            count,
+            rounds,
+            &mut tree,
+            task,
+            tails,
+            heads,
+            weights,
+            &first,
+            &next,
+            boxes,
+        );
+        labels = r.labels;
+        count = r.count;
+        if r.over {
+            return Outcome {
+                labels,
+                count,
+                found: r.found,
+            };
+        }
+    }
+}
 
 // Settles node after node from `s` on, until the next is the target `t` or none is left. Target 0 is never found: all
 // that can be reached is labelled.
@@ -34,44 +81,12 @@ pub fn run(
     requires { ⌜ (1 ≤ s) × (s ≤ n) × Sound n m (rows (now tails) (now heads) (now weights)) × Room toward m (now boxes) ⌝ }
     ensures { λ r. ⌜ r ≡ searchOf (rows (now (tails .entry)) (now (heads .entry)) (now (weights .entry))) (keeps toward (now (boxes .entry))) n m t s ⌝ }
 {
-    let mut first = [m as u32; 512];
-    let mut next = [0u32; 2048];
-    link(m, tails, &mut first, &mut next);
-    let mut tree = [FAR; 1024];
-    put(&mut tree, s - 1, key(0, 0, s - 1));
-    let mut labels = start(s);
-    let mut count: usize = 0;
-    loop {
-        let r = settle(
-            labels,
-            count,
-            STEP,
-            &mut tree,
-            s,
-            t,
-            n,
-            m,
-            tails,
-            heads,
-            weights,
-            &first,
-            &next,
-            toward,
-            boxes,
-        );
-        labels = r.labels;
-        count = r.count;
-        if r.over {
-            return Outcome {
-                labels,
-                count,
-                found: r.found,
-            };
-        }
-    }
+    let task = Task { s, t, n, m, toward };
+    run_by(STEP, task, tails, heads, weights, boxes)
 }
 
 // The labels of all that can be reached from `s`, by any arcs. With tails and heads swapped: of all that leads to `s`.
+// One step of n + 1 nodes is the whole run.
 pub fn label_all(
     s: usize,
     n: usize,
@@ -85,29 +100,13 @@ pub fn label_all(
 {
     // of no arc is a box asked
     let boxes = [0i32; 1];
-    let mut first = [m as u32; 512];
-    let mut next = [0u32; 2048];
-    link(m, tails, &mut first, &mut next);
-    let mut tree = [FAR; 1024];
-    put(&mut tree, s - 1, key(0, 0, s - 1));
-    let labels = start(s);
-    let r = settle(
-        labels,
-        0,
-        n + 1,
-        &mut tree,
+    let task = Task {
         s,
-        0,
+        t: 0,
         n,
         m,
-        tails,
-        heads,
-        weights,
-        &first,
-        &next,
-        Toward::Anywhere,
-        &boxes,
-    );
-    let last = r.labels;
-    last
+        toward: Toward::Anywhere,
+    };
+    let o = run_by(n + 1, task, tails, heads, weights, &boxes);
+    o.labels
 }

@@ -4,15 +4,14 @@ ghost use Prim.Native.Nat.{_≤_};
 ghost use lib.ListN.{length};
 ghost use Rattle.walks.specs.Rows.{rows, Sound};
 ghost use mathlib.Core.List.{[]};
-ghost use Rattle.settling.specs.Chain.{Chained};
-ghost use Rattle.settling.specs.Front.{labels};
-ghost use Rattle.settling.specs.Labels.{arcsOf};
+ghost use Rattle.frontier.specs.Chain.{Chained};
+ghost use Rattle.settling.specs.Labels.{labels, arcsOf};
 ghost use Rattle.settling.specs.Trace.{fits, intoOf, traceOf};
 ghost use Rattle.settling.specs.Toward.{Room, keeps};
 use crate::Into;
 use crate::Labels;
 use crate::Toward;
-use crate::chain::link;
+use frontier::chain::link;
 
 // Whether a step of weight w leads from the label (l, k) to (l2, k2).
 fn leads(l: u32, k: u32, w: u32, l2: u32, k2: u32) -> bool

@@ -14,7 +14,7 @@ use Rattle.walks.specs.Walk.{Net, kept}
 use Rattle.walks.specs.Rows.{Rows, network}
 use Rattle.geometry.specs.Box.{Box}
 use Rattle.geometry.specs.Row.{boxOf}
-use Rattle.settling.specs.Choice.{cond-by}
+use Rattle.settling.proofs.Choice.{cond-by}
 use Rattle.settling.specs.Run.{searchOf}
 use Rattle.judging.specs.Order.{searchJudged, boxedJudged, buildJudged, checkJudged, updateJudged}
 use Rattle.judging.proofs.FineLaws.{SearchLent, search-fine, boxed-fine, build-fine, check-fine, update-fine}

@@ -6,7 +6,7 @@ use native.Mathlib.Omega.{arith}
 use native.Mathlib.Decide.{ℕ-discrete}
 use borrow.Author.Tests.{eqb-true, eqb-false}
 use lib.Dec.{eqb}
-use Rattle.settling.specs.Choice.{cond-by}
+use Rattle.settling.proofs.Choice.{cond-by}
 use Rattle.drawing.specs.declared.compare.Missed.{Missed}
 use Rattle.drawing.specs.declared.compare.Missed.the-variants.{Nothing, At}
 use Rattle.drawing.specs.Missed.{FirstOf}

@@ -8,7 +8,7 @@ use native.Mathlib.Omega.{arith}
 use native.Mathlib.Decide.{ℕ-discrete}
 use Rattle.walks.specs.Rows.{Rows, Sound, network}
 use Rattle.walks.specs.Through.{InS}
-use Rattle.settling.specs.Choice.{cond-by}
+use Rattle.settling.proofs.Choice.{cond-by}
 use Rattle.drawing.specs.Leads.{leadsTo}
 use Rattle.boxwork.proofs.TightLaws.{inS-range}
 use Rattle.boxwork.proofs.Meaning.{leads-inS, inS-leads}

@@ -7,7 +7,7 @@ use mir.Syntax.{w32}
 use mir.Val.{toZ}
 use borrow.Author.Tests.{not-true, not-false}
 use Rattle.walks.specs.Rows.{rows, arc-at}
-use Rattle.settling.specs.Choice.{and-yes, and-no}
+use Rattle.settling.proofs.Choice.{and-yes, and-no}
 use Rattle.geometry.proofs.Signed.{back}
 use Rattle.drawing.specs.Leads.{leadsAt}
 use Rattle.drawing.specs.Missed.{missB}

@@ -1,0 +1,66 @@
+-- `settling::run::run_by` meets its contract. The loop's invariant: the run stands at the labels at hand. Assumes nothing.
+use Prim.Native.Nat.{ℕ, _-_}
+use native.Mathlib.Omega.{arith}
+use mathlib.Core.Path.{refl}
+use lib.ListN.{length-replicate}
+use Rattle.walks.specs.Rows.{rows}
+use Rattle.frontier.proofs.Leaves.{mended-start}
+use Rattle.settling.specs.Round.{Round}
+use Rattle.settling.proofs.Widen.{widened}
+use Rattle.settling.proofs.AlongChains.{tails-ends}
+use Rattle.settling.proofs.Rounds.{round-start}
+use borrow.Author.Needs.{needs}
+use Rattle.settling.proofs.run.run_by.Statement.{statement}
+use Rattle.settling.proofs.run.run_by.Tie as tie
+
+abbrev Inv-loop : tie.InvT-loop
+Inv-loop rounds task tails heads weights boxes first next tree₀ labels₀ count₀ tree labels count =
+    Round (rows tails heads weights) boxes task count labels tree
+
+abbrev μ-loop : tie.MeasureT-loop
+μ-loop rounds task tails heads weights boxes first next tree₀ labels₀ count₀ tree labels count = task .n - count
+
+link-requires : tie.Need-link-requires Inv-loop μ-loop
+link-requires c κs =
+    (tails-ends (widened (c .before .before .before .before .before .before .pre .2 .sound)), refl, length-replicate {A = ℕ} 2_048 0)
+
+put-requires : tie.Need-put-requires Inv-loop μ-loop
+put-requires c κs =
+    let p = c .before .before .before .before .before .before .before .before .before .before .before .pre .2 in (omega (arith, p .source-low, p .source-high, p .sound .nodes-high), mended-start)
+
+loop-holds : tie.Need-loop-holds Inv-loop μ-loop
+loop-holds c =
+    round-start (c .before .before .before .before .before .before .before .before .before .before .before .before .before .pre .2) _ (c .before .put .ensures) (c .before .before .key .ensures) (c .start .ensures)
+
+settle-requires : tie.Need-settle-requires Inv-loop μ-loop
+settle-requires c κs =
+    (c .before .before .before .loop .inv, c .before .before .before .before .before .before .before .before .before .before .link .ensures, c .before .before .before .before .before .before .before .before .before .before .before .before .before .before .before .before .before .pre .1)
+
+returns : tie.Need-returns Inv-loop μ-loop
+returns c = c .before .before .settle .ensures .over (c .if1 .taken)
+
+loop-less : tie.Need-loop-less Inv-loop μ-loop
+loop-less c =
+    let e = c .before .before .settle .ensures in
+    let go = c .if1 .left in
+    omega (arith, c .before .before .before .before .before .before .before .before .before .before .before .before .before .before .before .before .before .before .before .before .pre .0, e .count go, e .round go .high)
+
+loop-again : tie.Need-loop-again Inv-loop μ-loop
+loop-again c = c .before .before .settle .ensures .round (c .if1 .left)
+
+pub run-by-spec : {M : Type 1} → statement M
+run-by-spec =
+    tie.close
+    (tie.spec
+    Inv-loop
+    μ-loop
+    (λ c. search needs)
+    link-requires
+    (λ c. search needs) (λ c. search needs) (λ c κs. search needs)
+    put-requires
+    (λ c κs. search needs)
+    loop-holds
+    settle-requires
+    returns
+    loop-less
+    loop-again)
