@@ -17,7 +17,7 @@ use Rattle.geometry.specs.Row.{number, boxOf}
 use Rattle.geometry.proofs.SmallestLaws.{smallest-same}
 use Rattle.search.specs.Alike.{other-way, inS-alike}
 use Rattle.search.specs.Cut.{cut, place-cut, box-cut, arc-rows-cut, arcs-cut, network-cut, box-rows-cut, places-cut, boxes-cut}
-use Rattle.drawing.specs.Drawn.{Drawn}
+use Rattle.drawing.specs.Drawn.{Drawn, boxRow}
 use Rattle.boxwork.specs.Tight.{PlaceOf, Tight, Updated, HoldsNode}
 use Rattle.boxwork.proofs.TightLaws.{inS-range}
 use Rattle.boxwork.specs.Judge.{buildJudged, checkJudged, updateJudged}
@@ -41,12 +41,12 @@ past-cut (suc k) (z ∷ row) (suc i) h = past-cut k row i (omega arith)
 
 drawn-cut : {Is Js : ℕ → Box → Box → Type 0} {m : ℕ} {before after : List ℤ}
     → ((e : ℕ) → 1 ≤ e → e ≤ m → Is e (boxOf before e) (boxOf after e) → Js e (boxOf before e) (boxOf after e))
-    → Drawn m Is before after → Drawn m Js (take (4 * m) before) (take (4 * m) after) × (drop (4 * m) after ≡ drop (4 * m) before)
+    → Drawn boxRow m Is before after → Drawn boxRow m Js (take (4 * m) before) (take (4 * m) after) × (drop (4 * m) after ≡ drop (4 * m) before)
 drawn-cut {Js = Js} {m = m} {before = before} {after = after} h d = (
   record {
-    boxes = λ e low high.
+    entries = λ e low high.
         subst (λ (b : Box). Js e b (boxOf (take (4 * m) after) e)) (sym (box-cut m before e low high))
-        (subst (Js e (boxOf before e)) (sym (box-cut m after e low high)) (h e low high (d .boxes e low high)));
+        (subst (Js e (boxOf before e)) (sym (box-cut m after e low high)) (h e low high (d .entries e low high)));
     rest = λ i h. past-cut (4 * m) after i h ∙ sym (past-cut (4 * m) before i h);
     long = length-take (4 * m) after ∙ (ap (λ (l : ℕ). min (4 * m) l) (d .long) ∙ sym (length-take (4 * m) before));
   },

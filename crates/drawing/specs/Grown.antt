@@ -32,11 +32,9 @@ module _ (leads : ℕ → Bool) (x y : List ℤ) where
 
 -- ---- What becomes of arc e's box b
 
-abbrev pub Started : List ℕ → List ℤ → List ℤ → ℕ → Box → Box → Type 0
-Started heads x y e b c = c ≡ headBox heads x y e
-
-abbrev pub GrownHead : List ℕ → List ℤ → List ℤ → ℕ → Box → Box → Type 0
-GrownHead heads x y e b c = c ≡ grown b (coordinate x (at heads e)) (coordinate y (at heads e))
+-- that of its head, or it grows by its head's place
+abbrev pub FromHead : Bool → List ℕ → List ℤ → List ℤ → ℕ → Box → Box → Type 0
+FromHead anew heads x y e b c = c ≡ cond anew (headBox heads x y e) (grown b (coordinate x (at heads e)) (coordinate y (at heads e)))
 
 abbrev pub GrownOnce : (ℕ → Bool) → ℤ → ℤ → ℕ → Box → Box → Type 0
 GrownOnce leads px py e b c = c ≡ grownIf (leads e) px py b

@@ -1,0 +1,22 @@
+-- `drawing::grow::draw_place` meets its contract. Assumes nothing.
+use Rattle.geometry.proofs.Signed.{back}
+use borrow.Author.Needs.{needs}
+use Rattle.drawing.proofs.grow.draw_place.Statement.{statement}
+use Rattle.drawing.proofs.grow.draw_place.Tie as tie
+
+returns : tie.Need-returns
+returns c =
+    rw (c .before .before .before .if1 .taken) (simp (back (c .before .before .before .before .args .x) (c .before .before .before .before .fits .x .sfits), back (c .before .before .before .before .args .y) (c .before .before .before .before .fits .y .sfits)) at (c .before .start-box .ensures))
+
+returns-2 : tie.Need-returns-2
+returns-2 c =
+    rw (c .before .before .before .if1 .left) (simp (back (c .before .before .before .before .args .x) (c .before .before .before .before .fits .x .sfits), back (c .before .before .before .before .args .y) (c .before .before .before .before .fits .y .sfits)) at (c .before .grow-box .ensures))
+
+pub draw-place-spec : {M : Type 1} → statement M
+draw-place-spec =
+    tie.close
+    (tie.spec
+    (λ c κs. search needs) (λ c κs. search needs) (λ c. search needs)
+    returns
+    (λ c. search needs)
+    returns-2)
