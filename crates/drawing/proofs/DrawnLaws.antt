@@ -13,23 +13,30 @@ use Rattle.geometry.specs.Box.{Box}
 use Rattle.geometry.specs.Row.{number, boxFrom, boxOf, withBox}
 use Rattle.geometry.proofs.SmallestLaws.{same-box}
 use Rattle.geometry.proofs.RowLaws.{with-length, with-same, with-other, with-past}
-use Rattle.drawing.specs.Drawn.{Kind, boxRow, singleRow, Drawn}
+use Rattle.drawing.specs.Drawn.{Kind, Row, boxRow, singleRow, Drawn}
 
 -- ---- What the laws need of a kind of row
 
+-- what stands at a place, counted from 0
+abbrev place : (K : Kind) → Row K → ℕ → K .Number
+place K row i = getD row i (K .none)
+
 -- how an entry is put into a row, and what that leaves; and that entries tell what stands at their places
-pub record Puts (K : Kind) (put : List (K .Number) → ℕ → K .Entry → List (K .Number)) : Type 0 where
-  pub long : (row : List (K .Number)) (e : ℕ) (c : K .Entry) → length (put row e c) ≡ length row
-  pub there : (row : List (K .Number)) (e : ℕ) (c : K .Entry) → 1 ≤ e → K .places * e ≤ length row → K .entry (put row e c) e ≡ c
-  pub elsewhere : (row : List (K .Number)) (e i : ℕ) (c : K .Entry) → 1 ≤ e → 1 ≤ i → (i ≡ e → ⊥) → K .entry (put row e c) i ≡ K .entry row i
-  pub past : (row : List (K .Number)) (e : ℕ) (c : K .Entry) (i : ℕ) → 1 ≤ e → K .places * e ≤ i → getD (put row e c) i (K .none) ≡ getD row i (K .none)
-  pub by-places : (row other : List (K .Number)) (e : ℕ) → ((i : ℕ) → K .places * (e - 1) ≤ i → getD row i (K .none) ≡ getD other i (K .none))
+pub record Puts (K : Kind) (put : Row K → ℕ → K .Entry → Row K) : Type 0 where
+  pub long : (row : Row K) (e : ℕ) (c : K .Entry) → length (put row e c) ≡ length row
+  pub there : (row : Row K) (e : ℕ) (c : K .Entry) → 1 ≤ e → K .places * e ≤ length row → K .entry (put row e c) e ≡ c
+  pub elsewhere : (row : Row K) (e i : ℕ) (c : K .Entry) → 1 ≤ e → 1 ≤ i → (i ≡ e → ⊥)
+      → K .entry (put row e c) i ≡ K .entry row i
+  pub past : (row : Row K) (e : ℕ) (c : K .Entry) (i : ℕ) → 1 ≤ e → K .places * e ≤ i
+      → place K (put row e c) i ≡ place K row i
+  pub by-places : (row other : Row K) (e : ℕ) → ((i : ℕ) → K .places * (e - 1) ≤ i → place K row i ≡ place K other i)
       → K .entry row e ≡ K .entry other e
-  pub to-places : (row other : List (K .Number)) (m : ℕ) → ((e : ℕ) → 1 ≤ e → e ≤ m → K .entry row e ≡ K .entry other e)
-      → (i : ℕ) → i < K .places * m → getD row i (K .none) ≡ getD other i (K .none)
+  pub to-places : (row other : Row K) (m : ℕ) → ((e : ℕ) → 1 ≤ e → e ≤ m → K .entry row e ≡ K .entry other e)
+      → (i : ℕ) → i < K .places * m → place K row i ≡ place K other i
 
 -- boxes
-box-places : (row other : List ℤ) (m : ℕ) → ((e : ℕ) → 1 ≤ e → e ≤ m → boxOf row e ≡ boxOf other e) → (i : ℕ) → i < 4 * m → number row i ≡ number other i
+box-places : (row other : List ℤ) (m : ℕ) → ((e : ℕ) → 1 ≤ e → e ≤ m → boxOf row e ≡ boxOf other e)
+    → (i : ℕ) → i < 4 * m → number row i ≡ number other i
 box-places row other m same i h =
     let e : ℕ = i / 4 + 1 in
     let q : boxFrom row (4 * (e - 1)) ≡ boxFrom other (4 * (e - 1)) = same e (omega arith) (omega arith) in
@@ -82,17 +89,18 @@ module _ {A : Type 0} (none : A) where
 wider : (p k : ℕ) → p * k ≤ p * (k + 1)
 wider p k = rw (add-one k) (omega (arith, mul-suc p k))
 
-module _ {K : Kind} {Is : ℕ → K .Entry → K .Entry → Type 0} {before : List (K .Number)} where
+module _ {K : Kind} {Is : ℕ → K .Entry → K .Entry → Type 0} {before : Row K} where
   pub drawn-none : Drawn K 0 Is before before
   drawn-none = record { entries = λ e low high. absurd (omega arith); rest = λ i h. refl; long = refl }
 
-  module _ {put : List (K .Number) → ℕ → K .Entry → List (K .Number)} (puts : Puts K put) {k : ℕ} {now : List (K .Number)} (drawn : Drawn K k Is before now) where
+  module _ {put : Row K → ℕ → K .Entry → Row K} (puts : Puts K put) {k : ℕ} {now : Row K} (drawn : Drawn K k Is before now) where
     -- the next arc's entry is the old one yet
     pub drawn-old : K .entry now (k + 1) ≡ K .entry before (k + 1)
     drawn-old = puts .by-places now before (k + 1) (λ i h. let back : k + 1 - 1 ≡ k = omega arith in drawn .rest i (rw back at h))
 
     -- it is put into the row
-    pub drawn-next : (c : K .Entry) → K .places * (k + 1) ≤ length before → Is (k + 1) (K .entry before (k + 1)) c → Drawn K (k + 1) Is before (put now (k + 1) c)
+    pub drawn-next : (c : K .Entry) → K .places * (k + 1) ≤ length before → Is (k + 1) (K .entry before (k + 1)) c
+        → Drawn K (k + 1) Is before (put now (k + 1) c)
     drawn-next c room h = record {
       entries = λ e low high. elim (ℕ-discrete e (k + 1)) [
         | yes same ↦
@@ -110,7 +118,8 @@ module _ {K : Kind} {Is : ℕ → K .Entry → K .Entry → Type 0} {before : Li
     drawn-stays h = record {
       entries = λ e low high. elim (ℕ-discrete e (k + 1)) [
         | yes same ↦
-            subst (λ (i : ℕ). Is i (K .entry before i) (K .entry now i)) (sym same) (subst (Is (k + 1) (K .entry before (k + 1))) (sym drawn-old) h)
+            subst (λ (i : ℕ). Is i (K .entry before i) (K .entry now i)) (sym same)
+            (subst (Is (k + 1) (K .entry before (k + 1))) (sym drawn-old) h)
         | no other ↦ drawn .entries e low (omega arith)
       ];
       rest = λ i high. drawn .rest i (omega (arith, wider (K .places) k));
@@ -118,11 +127,12 @@ module _ {K : Kind} {Is : ℕ → K .Entry → K .Entry → Type 0} {before : Li
     }
 
 -- a row in which each entry is as it becomes
-pub drawn-self : {K : Kind} {Is : ℕ → K .Entry → K .Entry → Type 0} (m : ℕ) (row : List (K .Number)) → ((e : ℕ) (b : K .Entry) → Is e b b) → Drawn K m Is row row
+pub drawn-self : {K : Kind} {Is : ℕ → K .Entry → K .Entry → Type 0} (m : ℕ) (row : Row K) → ((e : ℕ) (b : K .Entry) → Is e b b)
+    → Drawn K m Is row row
 drawn-self m row h = record { entries = λ e low high. h e _; rest = λ i high. refl; long = refl }
 
 -- one drawing after another
-pub drawn-then : {K : Kind} {Is Js Ks : ℕ → K .Entry → K .Entry → Type 0} {m : ℕ} {a b c : List (K .Number)}
+pub drawn-then : {K : Kind} {Is Js Ks : ℕ → K .Entry → K .Entry → Type 0} {m : ℕ} {a b c : Row K}
     → ((e : ℕ) → 1 ≤ e → e ≤ m → (p q : K .Entry) → Is e (K .entry a e) p → Js e p q → Ks e (K .entry a e) q)
     → Drawn K m Is a b → Drawn K m Js b c → Drawn K m Ks a c
 drawn-then h p q = record {
@@ -132,7 +142,8 @@ drawn-then h p q = record {
 }
 
 -- there is one such row only, where each entry becomes one only
-pub drawn-unique : {K : Kind} {put : List (K .Number) → ℕ → K .Entry → List (K .Number)} {Is : ℕ → K .Entry → K .Entry → Type 0} {m : ℕ} {before after after′ : List (K .Number)}
+pub drawn-unique : {K : Kind} {put : Row K → ℕ → K .Entry → Row K} {Is : ℕ → K .Entry → K .Entry → Type 0}
+    {m : ℕ} {before after after′ : Row K}
     → Puts K put → ((e : ℕ) → 1 ≤ e → e ≤ m → (b c c′ : K .Entry) → Is e b c → Is e b c′ → c ≡ c′)
     → Drawn K m Is before after → Drawn K m Is before after′ → after ≡ after′
 drawn-unique {K} {m = m} {after = after} {after′ = after′} puts one p q =

@@ -19,7 +19,8 @@ use Rattle.drawing.specs.Grown.{Nodes, headBox, grownIf, grownBy, GrownO
 use Rattle.drawing.proofs.DrawnLaws.{puts-box, puts-single, drawn-old, drawn-next, drawn-stays, drawn-self, drawn-then}
 
 -- the arc at place j is arc j + 1
-pub leads-next : (R : Rows) (lengths : List ℕ) (j : ℕ) {t : Bool} → leadsB lengths (getD (R .tails) j 0) (getD (R .heads) j 0) (getD (R .weights) j 0) ≡ t
+pub leads-next : (R : Rows) (lengths : List ℕ) (j : ℕ) {t : Bool}
+    → leadsB lengths (getD (R .tails) j 0) (getD (R .heads) j 0) (getD (R .weights) j 0) ≡ t
     → leadsAt R lengths (j + 1) ≡ t
 unfolding leadsAt
 leads-next R lengths j e = let same : j + 1 - 1 ≡ j = omega arith in rw same e
@@ -29,7 +30,8 @@ pub mark-next : (row : List Bool) (j : ℕ) {t : Bool} → getD row j false ≡ 
 mark-next row j e = let same : j + 1 - 1 ≡ j = omega arith in rw same e
 
 -- the arc e + 1: it is marked, if it leads
-pub mark-turn : (R : Rows) (lengths : List ℕ) {e : ℕ} {before now : List Bool} {mark : Bool} → Drawn markRow e (Marked (leadsAt R lengths)) before now
+pub mark-turn : (R : Rows) (lengths : List ℕ) {e : ℕ} {before now : List Bool} {mark : Bool}
+    → Drawn markRow e (Marked (leadsAt R lengths)) before now
     → mark ≡ leadsB lengths (getD (R .tails) e 0) (getD (R .heads) e 0) (getD (R .weights) e 0) → e < length before
     → Drawn markRow (e + 1) (Marked (leadsAt R lengths)) before (set now e mark)
 mark-turn R lengths {e} {before} {now} {mark} drawn told room =
@@ -42,7 +44,8 @@ module _ (leads : ℕ → Bool) (px py : ℤ) {e : ℕ} {before now after : List
   pub grow-turn : leads (e + 1) ≡ true → 4 * (e + 1) ≤ length before → after ≡ withBox now (e + 1) (grown (boxOf now (e + 1)) px py)
       → Drawn boxRow (e + 1) (GrownOnce leads px py) before after
   unfolding grownIf
-  grow-turn leading room made = rw made (drawn-next puts-box drawn _ room (ap (λ (b : Box). grown b px py) (drawn-old puts-box drawn) ∙ rw leading refl))
+  grow-turn leading room made =
+      rw made (drawn-next puts-box drawn _ room (ap (λ (b : Box). grown b px py) (drawn-old puts-box drawn) ∙ rw leading refl))
 
   pub skip-turn : leads (e + 1) ≡ false → after ≡ now → Drawn boxRow (e + 1) (GrownOnce leads px py) before after
   unfolding grownIf
@@ -62,12 +65,14 @@ module _ (R : Rows) (n m : ℕ) (x y : List ℤ) where
   -- its place grows the boxes of the arcs that are marked
   pub node-turn : (t : ℕ) {unmarked marked : List Bool} {px py : ℤ} {a b c : List ℤ}
       → Drawn markRow m (Marked (leadsTo R n m (t + 1))) unmarked marked → px ≡ number x t → py ≡ number y t
-      → Drawn boxRow m (GrownAll (leadsTo R n m) x y t) a b → Drawn boxRow m (GrownOnce (markOf marked) px py) b c → Drawn boxRow m (GrownAll (leadsTo R n m) x y (t + 1)) a c
+      → Drawn boxRow m (GrownAll (leadsTo R n m) x y t) a b → Drawn boxRow m (GrownOnce (markOf marked) px py) b c
+      → Drawn boxRow m (GrownAll (leadsTo R n m) x y (t + 1)) a c
   node-turn t marks ex ey p q =
       drawn-then (λ e low high b d i j. j ∙ rw (i, marks .entries e low high, ex, ey) (grown-next (λ v. leadsTo R n m v e) x y t _)) p q
 
 -- the box of the arc at place e becomes that of its head, or grows by it
-pub head-next : (anew : Bool) (heads : List ℕ) (x y : List ℤ) (e : ℕ) {px py : ℤ} {b c : Box} → px ≡ number x (getD heads e 0 - 1) → py ≡ number y (getD heads e 0 - 1) → b ≡ c
+pub head-next : (anew : Bool) (heads : List ℕ) (x y : List ℤ) (e : ℕ) {px py : ℤ} {b c : Box}
+    → px ≡ number x (getD heads e 0 - 1) → py ≡ number y (getD heads e 0 - 1) → b ≡ c
     → cond anew (placeBox px py) (grown b px py)
     ≡ cond anew (headBox heads x y (e + 1)) (grown c (coordinate x (at heads (e + 1))) (coordinate y (at heads (e + 1))))
 head-next anew heads x y e ex ey same = let back : e + 1 - 1 ≡ e = omega arith in rw (same, ex, ey, back) refl
@@ -87,7 +92,8 @@ module _ {test : ℕ → Bool} (k : ℕ) where
   first-nowhere h = record { most = omega arith; fails = h; passes = λ l. absurd (omega arith) }
 
 -- what fails a test up to e, and at e + 1, fails it up to e + 1
-pub fails-more : {test : ℕ → Bool} {e : ℕ} → ((i : ℕ) → 1 ≤ i → i ≤ e → test i ≡ false) → test (e + 1) ≡ false → (i : ℕ) → 1 ≤ i → i ≤ e + 1 → test i ≡ false
+pub fails-more : {test : ℕ → Bool} {e : ℕ} → ((i : ℕ) → 1 ≤ i → i ≤ e → test i ≡ false) → test (e + 1) ≡ false
+    → (i : ℕ) → 1 ≤ i → i ≤ e + 1 → test i ≡ false
 fails-more {test} {e} h p i low high = elim (ℕ-discrete i (e + 1)) [
   | yes same ↦ ap test same ∙ p
   | no other ↦ h i low (omega arith)

@@ -16,6 +16,9 @@ pub record Kind : Type 1 where
   pub Entry : Type 0
   pub entry : List Number → ℕ → Entry
 
+abbrev pub Row : Kind → Type 0
+Row K = List (K .Number)
+
 -- four numbers an arc: its box
 abbrev pub boxRow : Kind
 boxRow = record { Number = ℤ; none = pos 0; places = 4; Entry = Box; entry = boxOf }
@@ -33,7 +36,7 @@ markOf row e = getD row (e - 1) false
 
 -- The row after a call that draws the entries of the arcs 1..m: `Is e b c` tells what entry c becomes of arc e's old entry b.
 -- Every other place keeps what stood there.
-pub record Drawn (K : Kind) (m : ℕ) (Is : ℕ → K .Entry → K .Entry → Type 0) (before after : List (K .Number)) : Type 0 where
+pub record Drawn (K : Kind) (m : ℕ) (Is : ℕ → K .Entry → K .Entry → Type 0) (before after : Row K) : Type 0 where
   pub entries : (e : ℕ) → 1 ≤ e → e ≤ m → Is e (K .entry before e) (K .entry after e)
   pub rest : (i : ℕ) → K .places * m ≤ i → getD after i (K .none) ≡ getD before i (K .none)
   pub long : length after ≡ length before

@@ -1,4 +1,5 @@
--- `drawing::compare::before_miss` meets its contract. The loop's invariant: the boxes of the arcs up to e miss nothing. Assumes nothing.
+-- `drawing::compare::before_miss` meets its contract.
+-- The loop's invariant: the boxes of the arcs up to e miss nothing. Assumes nothing.
 use Prim.Native.Nat.{ℕ, _-_, _≤_}
 use mathlib.Core.Path.{_≡_, sym, _∙_, ap}
 use mathlib.Core.Bool.{false, not}
@@ -27,24 +28,34 @@ loop-holds c = (omega arith, λ i low high. absurd (omega arith))
 
 returns : tie.Need-returns Inv-loop μ-loop
 returns c =
-    let mark = mark-next (c .before .before .before .before .before .before .args .marked .now) (c .before .before .before .before .before .loop .e) (c .before .before .if1 .taken) in
+    let s = c .before .before .before .before .before .before in
+    let l = c .before .before .before .before .before .loop in
+    let mark = mark-next (s .args .marked .now) (l .e) (c .before .before .if1 .taken) in
     let holds = sym (c .before .holds .ensures) ∙ not-true _ (c .if2 .taken) in
-    simp (back (c .before .before .before .before .before .before .args .px) (c .before .before .before .before .before .before .fits .px .sfits), back (c .before .before .before .before .before .before .args .py) (c .before .before .before .before .before .before .fits .py .sfits)) at (first-here (c .before .before .before .before .before .before .args .k) (c .before .before .before .before .before .loop .e) (omega arith) (c .before .before .before .before .before .loop .inv .1) (and-yes mark (ap not holds)))
+    let first = first-here (s .args .k) (l .e) (omega arith) (l .inv .1) (and-yes mark (ap not holds)) in
+    simp (back (s .args .px) (s .fits .px .sfits), back (s .args .py) (s .fits .py .sfits)) at first
 
 loop-again : tie.Need-loop-again Inv-loop μ-loop
 loop-again c =
-    let mark = mark-next (c .before .before .before .before .before .before .args .marked .now) (c .before .before .before .before .before .loop .e) (c .before .before .if1 .taken) in
+    let s = c .before .before .before .before .before .before in
+    let l = c .before .before .before .before .before .loop in
+    let mark = mark-next (s .args .marked .now) (l .e) (c .before .before .if1 .taken) in
     let holds = sym (c .before .holds .ensures) ∙ not-false _ (c .if2 .left) in
-    (omega arith, fails-more (c .before .before .before .before .before .loop .inv .1) (and-yes mark (ap not holds)))
+    (omega arith, fails-more (l .inv .1) (and-yes mark (ap not holds)))
 
 loop-again-2 : tie.Need-loop-again-2 Inv-loop μ-loop
 loop-again-2 c =
-    (omega arith, fails-more (c .before .before .before .loop .inv .1) (and-no _ (mark-next (c .before .before .before .before .args .marked .now) (c .before .before .before .loop .e) (c .if1 .left))))
+    let s = c .before .before .before .before in
+    let l = c .before .before .before .loop in
+    (omega arith, fails-more (l .inv .1) (and-no _ (mark-next (s .args .marked .now) (l .e) (c .if1 .left))))
 
 returns-2 : tie.Need-returns-2 Inv-loop μ-loop
 returns-2 c =
-    let last : c .before .loop .e ≡ c .before .before .args .k = omega arith in
-    simp (back (c .before .before .args .px) (c .before .before .fits .px .sfits), back (c .before .before .args .py) (c .before .before .fits .py .sfits)) at (first-nowhere (c .before .before .args .k) (rw last at (c .before .loop .inv .1)))
+    let s = c .before .before in
+    let l = c .before .loop in
+    let last : l .e ≡ s .args .k = omega arith in
+    let nowhere = first-nowhere (s .args .k) (rw last at (l .inv .1)) in
+    simp (back (s .args .px) (s .fits .px .sfits), back (s .args .py) (s .fits .py .sfits)) at nowhere
 
 pub before-miss-spec : {M : Type 1} → statement M
 before-miss-spec =

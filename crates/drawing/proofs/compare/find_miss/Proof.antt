@@ -1,4 +1,5 @@
--- `drawing::compare::find_miss` meets its contract. The loop's invariant: the lowest arc and node among the nodes up to t. Assumes nothing.
+-- `drawing::compare::find_miss` meets its contract.
+-- The loop's invariant: the lowest arc and node among the nodes up to t. Assumes nothing.
 use Prim.Native.Nat.{_-_, _≤_}
 use mathlib.Core.Path.{_≡_, _∙_}
 use mathlib.Core.Logic.{⊎-elim}
@@ -26,23 +27,31 @@ loop-holds c = (omega arith, length-replicate {A = Bool} 2048 false, lower-none 
 
 mark-toward-requires : tie.Need-mark-toward-requires Inv-loop μ-loop
 mark-toward-requires c κs =
-    (omega arith, omega arith, c .before .before .loop .inv .2 .most, c .before .before .before .before .before .before .pre .0, c .before .before .loop .inv .1)
+    let l = c .before .before .loop in
+    (omega arith, omega arith, l .inv .2 .most, c .before .before .before .before .before .before .pre .0, l .inv .1)
 
 before-miss-requires : tie.Need-before-miss-requires Inv-loop μ-loop
 before-miss-requires c κs =
-    (omega (arith, c .before .before .before .before .before .before .loop .inv .2 .most, c .before .before .before .before .before .before .before .before .before .before .pre .0 .arcs-high), omega (arith, c .before .before .before .before .before .before .loop .inv .2 .most))
+    let most = c .before .before .before .before .before .before .loop .inv .2 .most in
+    let high = c .before .before .before .before .before .before .before .before .before .before .pre .0 .arcs-high in
+    (omega arith, omega arith)
 
 loop-again : tie.Need-loop-again Inv-loop μ-loop
 loop-again c =
     let a = c .before .before .before .before .before .before .before .before .before .before .before .before .args in
     let l = c .before .before .before .before .before .before .before .before .loop in
+    let R = rows (a .tails .now) (a .heads .now) (a .weights .now) in
     let px = back (number (a .x .now) (l .t)) (c .before .before .before .before-miss-arg .given) in
     let py = back (number (a .y .now) (l .t)) (c .before .before .before-miss-arg2 .given) in
     let marks = c .before .before .before .before .before .mark-toward .ensures in
-    let k = before-node (rows (a .tails .now) (a .heads .now) (a .weights .now)) (a .n) (a .m) (a .boxes .now) (a .x .now) (a .y .now) (l .t) marks px py (c .before .before-miss .ensures) in (
+    let found = c .before .before-miss .ensures in
+    let first = before-node R (a .n) (a .m) (a .boxes .now) (a .x .now) (a .y .now) (l .t) marks px py found in (
       omega arith,
       marks .long ∙ l .inv .1,
-      ⊎-elim (λ w. rw (w .1, w .2) (lower-here (l .inv .2) k (w .0 .taken))) (λ w. rw (w .1, w .2) (lower-stays (l .inv .2) k (w .0 .left))) (c .if1 .came),
+      ⊎-elim
+          (λ w. rw (w .1, w .2) (lower-here (l .inv .2) first (w .0 .taken)))
+          (λ w. rw (w .1, w .2) (lower-stays (l .inv .2) first (w .0 .left)))
+          (c .if1 .came),
     )
 
 cast-t27 : tie.Need-cast-t27 Inv-loop μ-loop
@@ -50,13 +59,15 @@ cast-t27 c = let h = c .before .before .loop .inv .2 .node-high (c .if2 .taken) 
 
 returns : tie.Need-returns Inv-loop μ-loop
 returns c =
-    let last : c .before .before .loop .t ≡ c .before .before .before .before .before .before .args .n = omega arith in
-    lower-found (rw last at (c .before .before .loop .inv .2)) (c .if2 .taken)
+    let l = c .before .before .loop in
+    let last : l .t ≡ c .before .before .before .before .before .before .args .n = omega arith in
+    lower-found (rw last at (l .inv .2)) (c .if2 .taken)
 
 returns-2 : tie.Need-returns-2 Inv-loop μ-loop
 returns-2 c =
-    let last : c .before .before .loop .t ≡ c .before .before .before .before .before .before .args .n = omega arith in
-    lower-nowhere (rw last at (c .before .before .loop .inv .2)) (c .if2 .left)
+    let l = c .before .before .loop in
+    let last : l .t ≡ c .before .before .before .before .before .before .args .n = omega arith in
+    lower-nowhere (rw last at (l .inv .2)) (c .if2 .left)
 
 pub find-miss-spec : {M : Type 1} → statement M
 find-miss-spec =

@@ -1,4 +1,5 @@
--- `drawing::grow::draw_heads` meets its contract. The loop's invariant: the boxes of the arcs up to e are drawn. Assumes nothing.
+-- `drawing::grow::draw_heads` meets its contract.
+-- The loop's invariant: the boxes of the arcs up to e are drawn. Assumes nothing.
 use Prim.Native.Nat.{_-_, _≤_}
 use mathlib.Core.Path.{_≡_}
 use native.Mathlib.Omega.{arith}
@@ -27,23 +28,33 @@ cast-at c = omega (arith, c .shared-slice-known2 .given (c .before .before .loop
 
 sub-at : tie.Need-sub-at Inv-loop μ-loop
 sub-at c =
-    let h = node-at (c .before .before .before .before .pre .0) (c .before .before .loop .e) (omega arith) in omega arith
+    let heads = c .before .before .before .before .pre .0 in
+    let h = node-at heads (c .before .before .loop .e) (omega arith) in
+    omega arith
 
 mul-draw-place : tie.Need-mul-draw-place Inv-loop μ-loop
 mul-draw-place c =
-    let h = node-at (c .before .before .before .before .before .pre .0) (c .before .before .before .loop .e) (omega arith) in omega arith
+    let heads = c .before .before .before .before .before .pre .0 in
+    let h = node-at heads (c .before .before .before .loop .e) (omega arith) in
+    omega arith
 
 shared-slice-copy-out-draw-place : tie.Need-shared-slice-copy-out-draw-place Inv-loop μ-loop
 shared-slice-copy-out-draw-place c =
-    let h = node-at (c .before .before .before .before .before .pre .0) (c .before .before .before .loop .e) (omega arith) in omega arith
+    let heads = c .before .before .before .before .before .pre .0 in
+    let h = node-at heads (c .before .before .before .loop .e) (omega arith) in
+    omega arith
 
 mul-draw-place-2 : tie.Need-mul-draw-place-2 Inv-loop μ-loop
 mul-draw-place-2 c =
-    let h = node-at (c .before .before .before .before .before .before .pre .1) (c .before .before .before .before .loop .e) (omega arith) in omega arith
+    let heads = c .before .before .before .before .before .before .pre .1 in
+    let h = node-at heads (c .before .before .before .before .loop .e) (omega arith) in
+    omega arith
 
 shared-slice-copy-out-draw-place-2 : tie.Need-shared-slice-copy-out-draw-place-2 Inv-loop μ-loop
 shared-slice-copy-out-draw-place-2 c =
-    let h = node-at (c .before .before .before .before .before .before .pre .1) (c .before .before .before .before .loop .e) (omega arith) in omega arith
+    let heads = c .before .before .before .before .before .before .pre .1 in
+    let h = node-at heads (c .before .before .before .before .loop .e) (omega arith) in
+    omega arith
 
 draw-place-requires : tie.Need-draw-place-requires Inv-loop μ-loop
 draw-place-requires c κs = omega (arith, c .before .before .before .before .before .loop .inv .1 .long)

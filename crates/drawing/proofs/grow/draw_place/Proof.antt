@@ -6,11 +6,15 @@ use Rattle.drawing.proofs.grow.draw_place.Tie as tie
 
 returns : tie.Need-returns
 returns c =
-    rw (c .before .before .before .if1 .taken) (simp (back (c .before .before .before .before .args .x) (c .before .before .before .before .fits .x .sfits), back (c .before .before .before .before .args .y) (c .before .before .before .before .fits .y .sfits)) at (c .before .start-box .ensures))
+    let s = c .before .before .before .before in
+    let made = simp (back (s .args .x) (s .fits .x .sfits), back (s .args .y) (s .fits .y .sfits)) at (c .before .start-box .ensures) in
+    rw (c .before .before .before .if1 .taken) made
 
 returns-2 : tie.Need-returns-2
 returns-2 c =
-    rw (c .before .before .before .if1 .left) (simp (back (c .before .before .before .before .args .x) (c .before .before .before .before .fits .x .sfits), back (c .before .before .before .before .args .y) (c .before .before .before .before .fits .y .sfits)) at (c .before .grow-box .ensures))
+    let s = c .before .before .before .before in
+    let made = simp (back (s .args .x) (s .fits .x .sfits), back (s .args .y) (s .fits .y .sfits)) at (c .before .grow-box .ensures) in
+    rw (c .before .before .before .if1 .left) made
 
 pub draw-place-spec : {M : Type 1} → statement M
 draw-place-spec =

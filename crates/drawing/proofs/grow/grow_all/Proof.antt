@@ -1,4 +1,5 @@
--- `drawing::grow::grow_all` meets its contract. The loop's invariant: each box has grown by the nodes up to t. Assumes nothing.
+-- `drawing::grow::grow_all` meets its contract.
+-- The loop's invariant: each box has grown by the nodes up to t. Assumes nothing.
 use Prim.Native.Nat.{_-_, _≤_}
 use mathlib.Core.Path.{_≡_, _∙_}
 use mathlib.Core.Bool.{Bool, false}
@@ -27,21 +28,25 @@ loop-holds c = (omega arith, length-replicate {A = Bool} 2048 false, grown-none 
 
 mark-toward-requires : tie.Need-mark-toward-requires Inv-loop μ-loop
 mark-toward-requires c κs =
-    (omega arith, omega arith, omega arith, c .before .before .before .before .before .before .pre .0, c .before .before .loop .inv .1)
+    let l = c .before .before .loop in
+    (omega arith, omega arith, omega arith, c .before .before .before .before .before .before .pre .0, l .inv .1)
 
 grow-marked-requires : tie.Need-grow-marked-requires Inv-loop μ-loop
 grow-marked-requires c κs =
-    (omega (arith, c .before .before .before .before .before .before .before .before .before .before .before .pre .0 .arcs-high), omega (arith, c .before .before .before .before .before .before .before .loop .inv .2 .long))
+    let high = c .before .before .before .before .before .before .before .before .before .before .before .pre .0 .arcs-high in
+    let long = c .before .before .before .before .before .before .before .loop .inv .2 .long in
+    (omega arith, omega arith)
 
 loop-again : tie.Need-loop-again Inv-loop μ-loop
 loop-again c =
     let a = c .before .before .before .before .before .before .before .before .before .before .before .before .before .args in
     let l = c .before .before .before .before .before .before .before .before .before .loop in
+    let R = rows (a .tails .now) (a .heads .now) (a .weights .now) in
     let px = back (number (a .x .now) (l .t)) (c .before .before .before .before .grow-marked-arg .given) in
     let py = back (number (a .y .now) (l .t)) (c .before .before .before .grow-marked-arg2 .given) in
     let marks = c .before .before .before .before .before .before .mark-toward .ensures in
-    let turn = node-turn (rows (a .tails .now) (a .heads .now) (a .weights .now)) (a .n) (a .m) (a .x .now) (a .y .now) (l .t) marks px py (l .inv .2) (c .before .grow-marked .ensures) in
-    (omega arith, marks .long ∙ l .inv .1, turn)
+    let boxes = node-turn R (a .n) (a .m) (a .x .now) (a .y .now) (l .t) marks px py (l .inv .2) (c .before .grow-marked .ensures) in
+    (omega arith, marks .long ∙ l .inv .1, boxes)
 
 same-length : tie.Need-same-length Inv-loop μ-loop
 same-length c = c .before .loop .inv .2 .long

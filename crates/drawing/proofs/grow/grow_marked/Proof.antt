@@ -1,4 +1,5 @@
--- `drawing::grow::grow_marked` meets its contract. The loop's invariant: the boxes of the arcs up to e are drawn. Assumes nothing.
+-- `drawing::grow::grow_marked` meets its contract.
+-- The loop's invariant: the boxes of the arcs up to e are drawn. Assumes nothing.
 use Prim.Native.Nat.{_-_, _≤_}
 use mathlib.Core.Path.{_≡_, _∙_}
 use mathlib.Core.Logic.{⊎-elim}
@@ -30,11 +31,11 @@ grow-box-requires c κs = omega (arith, c .before .before .before .before .loop 
 loop-again : tie.Need-loop-again Inv-loop μ-loop
 loop-again c =
     let l = c .before .before .before .loop in
-    let mark = c .before .before .before .before .args .marked .now in (
+    let marked = c .before .before .before .before .args .marked .now in (
       omega arith,
       ⊎-elim
-          (λ w. grow-turn (markOf mark) _ _ (l .inv .1) (mark-next mark (l .e) (w .0 .taken)) (omega arith) (w .4 ∙ w .2 .ensures))
-          (λ w. skip-turn (markOf mark) _ _ (l .inv .1) (mark-next mark (l .e) (w .0 .left)) (w .1))
+          (λ w. grow-turn (markOf marked) _ _ (l .inv .1) (mark-next marked (l .e) (w .0 .taken)) (omega arith) (w .4 ∙ w .2 .ensures))
+          (λ w. skip-turn (markOf marked) _ _ (l .inv .1) (mark-next marked (l .e) (w .0 .left)) (w .1))
           (c .if1 .came),
     )
 
@@ -43,9 +44,10 @@ same-length c = c .before .loop .inv .1 .long
 
 returns : tie.Need-returns Inv-loop μ-loop
 returns c =
+    let s = c .before .before in
     let l = c .before .loop in
-    let last : l .e ≡ c .before .before .args .m = omega arith in
-    simp (last, back (c .before .before .args .px) (c .before .before .fits .px .sfits), back (c .before .before .args .py) (c .before .before .fits .py .sfits)) at (l .inv .1)
+    let last : l .e ≡ s .args .m = omega arith in
+    simp (last, back (s .args .px) (s .fits .px .sfits), back (s .args .py) (s .fits .py .sfits)) at (l .inv .1)
 
 pub grow-marked-spec : {M : Type 1} → statement M
 grow-marked-spec =

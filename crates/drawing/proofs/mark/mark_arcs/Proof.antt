@@ -23,7 +23,9 @@ loop-holds c = (omega arith, drawn-none)
 
 leads-requires : tie.Need-leads-requires Inv-loop μ-loop
 leads-requires c κs =
-    let a = arc-at (c .before .before .before .before .before .before .before .before .pre .0) (c .before .before .before .before .loop .e) (omega arith) in (a .tail-low, a .tail-high, a .head-low, a .head-high)
+    let sound = c .before .before .before .before .before .before .before .before .pre .0 in
+    let a = arc-at sound (c .before .before .before .before .loop .e) (omega arith) in
+    (a .tail-low, a .tail-high, a .head-low, a .head-high)
 
 element-write-marked : tie.Need-element-write-marked Inv-loop μ-loop
 element-write-marked c =
@@ -31,8 +33,11 @@ element-write-marked c =
 
 loop-again : tie.Need-loop-again Inv-loop μ-loop
 loop-again c =
-    let a = c .before .before .before .before .before .before .before .before .before .args in
-    (omega arith, mark-turn (rows (a .tails .now) (a .heads .now) (a .weights .now)) (a .lengths .now) (c .before .before .before .before .before .loop .inv .1) (c .leads .ensures) (omega (arith, c .before .before .before .before .before .before .before .before .before .pre .0 .arcs-high, c .before .before .before .before .before .before .before .before .before .pre .1)))
+    let s = c .before .before .before .before .before .before .before .before .before in
+    let R = rows (s .args .tails .now) (s .args .heads .now) (s .args .weights .now) in
+    let high = s .pre .0 .arcs-high in
+    let drawn = c .before .before .before .before .before .loop .inv .1 in
+    (omega arith, mark-turn R (s .args .lengths .now) drawn (c .leads .ensures) (omega (arith, high, s .pre .1)))
 
 returns : tie.Need-returns Inv-loop μ-loop
 returns c =

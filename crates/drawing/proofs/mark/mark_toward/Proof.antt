@@ -1,7 +1,5 @@
 -- `drawing::mark::mark_toward` meets its contract. Assumes nothing.
-use mathlib.Core.Path.{_≡_, ap, subst}
-use mathlib.Core.List.{List}
-use Prim.Native.Nat.{ℕ}
+use mathlib.Core.Path.{ap}
 use Rattle.walks.specs.Rows.{turned-sound}
 use Rattle.settling.specs.declared.Labels.{Labels}
 use Rattle.settling.proofs.Widen.{widened}
