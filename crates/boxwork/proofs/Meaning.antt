@@ -22,7 +22,8 @@ use Rattle.geometry.proofs.Tests.{holds-yes, yes-holds}
 use Rattle.geometry.proofs.SmallestLaws.{smallest-same, smallest-self, place-upright, place-smallest, grown-smallest, grown-upright}
 use Rattle.drawing.specs.Leads.{leadsAt, lengthsTo, leadsTo}
 use Rattle.drawing.specs.Drawn.{Drawn, boxRow}
-use Rattle.drawing.specs.Grown.{Nodes, headBox, grownBy, FromHead, GrownAll}
+use Rattle.drawing.specs.Heads.{Nodes, headBox, FromHead}
+use Rattle.drawing.specs.Grown.{grownBy, GrownAll}
 use Rattle.drawing.specs.Missed.{missesNode, Lowest}
 use Rattle.drawing.proofs.GrownLaws.{Led, grown-by}
 use Rattle.drawing.proofs.DrawnLaws.{drawn-then}

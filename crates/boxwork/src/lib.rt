@@ -28,7 +28,7 @@ pub fn build(
     let Judged::Fine = j else {
         return j;
     };
-    drawing::grow::draw_heads(true, m as usize, heads, x, y, boxes);
+    drawing::heads::draw_heads(true, m as usize, heads, x, y, boxes);
     drawing::grow::grow_all(n as usize, m as usize, tails, heads, weights, x, y, boxes);
     Judged::Fine
 }
@@ -94,7 +94,7 @@ pub fn update(
         return j;
     };
     set_weight(weights, arc, weight);
-    drawing::grow::draw_heads(false, m as usize, heads, x, y, boxes);
+    drawing::heads::draw_heads(false, m as usize, heads, x, y, boxes);
     drawing::grow::grow_all(n as usize, m as usize, tails, heads, weights, x, y, boxes);
     Judged::Fine
 }

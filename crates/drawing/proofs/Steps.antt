@@ -1,21 +1,21 @@
 -- The loops' steps: what one arc, and one node, adds. Assumes nothing.
 use Prim.Native.Nat.{ℕ, suc, _+_, _-_, _*_, _≤_, _<_}
 use mathlib.Core.Path.{_≡_, refl, sym, ap, subst, _∙_}
-use mathlib.Core.Bool.{Bool, true, false, cond}
+use mathlib.Core.Bool.{Bool, true, false}
 use mathlib.Core.List.{List}
 use native.Mathlib.Omega.{arith}
 use native.Mathlib.Decide.{ℕ-discrete}
 use native.Mathlib.Numerals.{add-one}
 use lib.IntN.{ℤ}
 use lib.ListN.{length, set, getD}
-use Rattle.walks.specs.Rows.{Rows, Sound, at}
+use Rattle.walks.specs.Rows.{Rows, Sound}
 use Rattle.geometry.specs.Box.{Box}
-use Rattle.geometry.specs.Hull.{placeBox, grown}
-use Rattle.geometry.specs.Row.{coordinate, number, boxOf, withBox}
+use Rattle.geometry.specs.Hull.{grown}
+use Rattle.geometry.specs.Row.{number, boxOf, withBox}
 use Rattle.drawing.specs.Leads.{leadsB, leadsAt, leadsTo, Marked}
 use Rattle.drawing.specs.Drawn.{boxRow, markRow, markOf, Drawn}
 use Rattle.drawing.specs.Missed.{BeforeFirst}
-use Rattle.drawing.specs.Grown.{Nodes, headBox, grownIf, grownBy, GrownOnce, GrownAll}
+use Rattle.drawing.specs.Grown.{grownIf, grownBy, GrownOnce, GrownAll}
 use Rattle.drawing.proofs.DrawnLaws.{puts-box, puts-single, drawn-old, drawn-next, drawn-stays, drawn-self, drawn-then}
 
 -- the arc at place j is arc j + 1
@@ -69,19 +69,6 @@ module _ (R : Rows) (n m : ℕ) (x y : List ℤ) where
       → Drawn boxRow m (GrownAll (leadsTo R n m) x y (t + 1)) a c
   node-turn t marks ex ey p q =
       drawn-then (λ e low high b d i j. j ∙ rw (i, marks .entries e low high, ex, ey) (grown-next (λ v. leadsTo R n m v e) x y t _)) p q
-
--- the box of the arc at place e becomes that of its head, or grows by it
-pub head-next : (anew : Bool) (heads : List ℕ) (x y : List ℤ) (e : ℕ) {px py : ℤ} {b c : Box}
-    → px ≡ number x (getD heads e 0 - 1) → py ≡ number y (getD heads e 0 - 1) → b ≡ c
-    → cond anew (placeBox px py) (grown b px py)
-    ≡ cond anew (headBox heads x y (e + 1)) (grown c (coordinate x (at heads (e + 1))) (coordinate y (at heads (e + 1))))
-head-next anew heads x y e ex ey same = let back : e + 1 - 1 ≡ e = omega arith in rw (same, ex, ey, back) refl
-
--- the head at place e is a node
-pub node-at : {n m : ℕ} {row : List ℕ} → Nodes n m row → (e : ℕ) → e < m → (1 ≤ getD row e 0) × (getD row e 0 ≤ n)
-node-at h e l =
-    let same : e + 1 - 1 ≡ e = omega arith in
-    (rw same at (h .low (e + 1) (omega arith) (omega arith)), rw same at (h .high (e + 1) (omega arith) (omega arith)))
 
 -- the number e + 1 passes a test that the numbers 1..e fail; or none of 1..k passes
 module _ {test : ℕ → Bool} (k : ℕ) where

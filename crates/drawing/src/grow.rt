@@ -1,40 +1,11 @@
-// Boxes started and grown.
-ghost use mathlib.Core.Path.{_≡_};
-ghost use mathlib.Core.Bool.{cond};
+// Boxes grown by the places of their S(e).
 ghost use Prim.Native.Nat.{_*_, _≤_};
 ghost use lib.ListN.{length};
 ghost use Rattle.walks.specs.Rows.{rows, Sound};
-ghost use Rattle.geometry.specs.Hull.{placeBox, grown};
-ghost use Rattle.geometry.specs.Row.{boxOf, withBox};
 ghost use Rattle.drawing.specs.Leads.{leadsTo};
 ghost use Rattle.drawing.specs.Drawn.{Drawn, boxRow, markOf};
-ghost use Rattle.drawing.specs.Grown.{Nodes, FromHead, GrownOnce, GrownAll};
+ghost use Rattle.drawing.specs.Grown.{GrownOnce, GrownAll};
 use crate::mark::mark_toward;
-
-// The box of an arc becomes that of one place (`anew`), or grows by it.
-fn draw_place(anew: bool, boxes: &mut [i32], arc: usize, x: i32, y: i32)
-    requires { ⌜ (1 ≤ arc) × (4 * arc ≤ length (now boxes)) ⌝ }
-    ensures { λ _. ⌜ now (boxes .exit) ≡ withBox (now (boxes .entry)) arc (cond anew (placeBox x y) (grown (boxOf (now (boxes .entry)) arc) x y)) ⌝ }
-{
-    if anew {
-        geometry::start_box(boxes, arc, x, y);
-    } else {
-        geometry::grow_box(boxes, arc, x, y);
-    }
-}
-
-// Each arc's box becomes that of its head's place (`anew`), or grows by it.
-pub fn draw_heads(anew: bool, m: usize, heads: &[u32], x: &[i32], y: &[i32], boxes: &mut [i32])
-    requires { ⌜ Nodes (length (now x)) m (now heads) × Nodes (length (now y)) m (now heads) × (4 * m ≤ length (now boxes)) ⌝ }
-    ensures { λ _. ⌜ Drawn boxRow m (FromHead anew (now (heads .entry)) (now (x .entry)) (now (y .entry))) (now (boxes .entry)) (now (boxes .exit)) ⌝ }
-{
-    let mut e: usize = 0;
-    while e < m {
-        let at = heads[e] as usize - 1;
-        draw_place(anew, boxes, e + 1, x[at], y[at]);
-        e += 1;
-    }
-}
 
 // Each marked arc's box grows by a place.
 fn grow_marked(marked: &[bool; 2048], px: i32, py: i32, m: usize, boxes: &mut [i32])

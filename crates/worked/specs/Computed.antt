@@ -21,7 +21,8 @@ use Rattle.search.specs.Judge.{searchJudged, boxedJudged}
 use Rattle.drawing.specs.declared.compare.Miss.{Miss}
 use Rattle.drawing.specs.declared.compare.Miss.the-variants.{Nowhere, First}
 use Rattle.drawing.specs.Leads.{leadsTo}
-use Rattle.drawing.specs.Grown.{headBox, grownBy}
+use Rattle.drawing.specs.Heads.{headBox}
+use Rattle.drawing.specs.Grown.{grownBy}
 use Rattle.drawing.specs.Missed.{missesNode}
 use Rattle.boxwork.specs.Judge.{buildJudged, checkJudged, updateJudged}
 use Rattle.boxwork.specs.Says.{reweighted}

@@ -1,8 +1,8 @@
--- `drawing::grow::draw_place` meets its contract. Assumes nothing.
+-- `drawing::heads::draw_place` meets its contract. Assumes nothing.
 use Rattle.geometry.proofs.Signed.{back}
 use borrow.Author.Needs.{needs}
-use Rattle.drawing.proofs.grow.draw_place.Statement.{statement}
-use Rattle.drawing.proofs.grow.draw_place.Tie as tie
+use Rattle.drawing.proofs.heads.draw_place.Statement.{statement}
+use Rattle.drawing.proofs.heads.draw_place.Tie as tie
 
 returns : tie.Need-returns
 returns c =

@@ -1,4 +1,4 @@
--- `drawing::grow::draw_heads` meets its contract.
+-- `drawing::heads::draw_heads` meets its contract.
 -- The loop's invariant: the boxes of the arcs up to e are drawn. Assumes nothing.
 use Prim.Native.Nat.{_-_, _≤_}
 use mathlib.Core.Path.{_≡_}
@@ -7,12 +7,12 @@ use lib.ListN.{getD}
 use Rattle.geometry.specs.Row.{number}
 use Rattle.geometry.proofs.Signed.{back}
 use Rattle.drawing.specs.Drawn.{Drawn, boxRow}
-use Rattle.drawing.specs.Grown.{FromHead}
+use Rattle.drawing.specs.Heads.{FromHead}
 use Rattle.drawing.proofs.DrawnLaws.{puts-box, drawn-none, drawn-old, drawn-next}
-use Rattle.drawing.proofs.Steps.{head-next, node-at}
+use Rattle.drawing.proofs.HeadLaws.{head-next, node-at}
 use borrow.Author.Needs.{needs}
-use Rattle.drawing.proofs.grow.draw_heads.Statement.{statement}
-use Rattle.drawing.proofs.grow.draw_heads.Tie as tie
+use Rattle.drawing.proofs.heads.draw_heads.Statement.{statement}
+use Rattle.drawing.proofs.heads.draw_heads.Tie as tie
 
 abbrev Inv-loop : tie.InvT-loop
 Inv-loop anew m heads x y boxes₀ e₀ boxes e = (e ≤ m) × Drawn boxRow e (FromHead anew heads x y) boxes₀ boxes
