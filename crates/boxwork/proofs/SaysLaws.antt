@@ -7,7 +7,7 @@ use lib.IntN.{ℤ}
 use Rattle.rules.specs.Paper.{Reply}
 use Rattle.walks.specs.Rows.{Rows}
 use Rattle.walks.specs.Checking.{missed-arc, missed-node, consistent-misses}
-use Rattle.drawing.proofs.DrawnLaws.{drawn-unique}
+use Rattle.drawing.proofs.DrawnLaws.{puts-box, drawn-unique}
 use Rattle.boxwork.proofs.TightLaws.{tight-unique, updated-unique}
 use Rattle.boxwork.specs.Says.{BuildSays, CheckSays, UpdateSays}
 
@@ -17,7 +17,7 @@ module _ {n m : ℕ} {R : Rows} {x y boxes : List ℤ} where
   build-unique (BuildSays.refused {r = r} e) (BuildSays.refused {r = r′} e′) = let same : r ≡ r′ = cc in (rw same, refl)
   build-unique (BuildSays.refused e) (BuildSays.built f d) = let z : _≡_ {A = ℕ} 0 1 = cc in absurd (omega arith)
   build-unique (BuildSays.built f d) (BuildSays.refused e) = let z : _≡_ {A = ℕ} 0 1 = cc in absurd (omega arith)
-  build-unique (BuildSays.built f d) (BuildSays.built f′ d′) = (refl, drawn-unique (λ e low high b c c′ p q. tight-unique p q) d d′)
+  build-unique (BuildSays.built f d) (BuildSays.built f′ d′) = (refl, drawn-unique puts-box (λ e low high b c c′ p q. tight-unique p q) d d′)
 
   pub check-unique : {reply reply′ : Reply} → CheckSays n m R x y boxes reply → CheckSays n m R x y boxes reply′ → reply ≡ reply′
   check-unique (CheckSays.refused {r = r} e) (CheckSays.refused {r = r′} e′) = let same : r ≡ r′ = cc in rw same
@@ -36,4 +36,4 @@ module _ {n m : ℕ} {R : Rows} {x y boxes : List ℤ} where
   update-unique (UpdateSays.refused {r = r} e) (UpdateSays.refused {r = r′} e′) = let same : r ≡ r′ = cc in (rw same, refl, refl)
   update-unique (UpdateSays.refused e) (UpdateSays.updated f d) = let z : _≡_ {A = ℕ} 0 1 = cc in absurd (omega arith)
   update-unique (UpdateSays.updated f d) (UpdateSays.refused e) = let z : _≡_ {A = ℕ} 0 1 = cc in absurd (omega arith)
-  update-unique (UpdateSays.updated f d) (UpdateSays.updated f′ d′) = (refl, refl, drawn-unique (λ e low high b c c′ p q. updated-unique p q) d d′)
+  update-unique (UpdateSays.updated f d) (UpdateSays.updated f′ d′) = (refl, refl, drawn-unique puts-box (λ e low high b c c′ p q. updated-unique p q) d d′)

@@ -5,7 +5,7 @@ ghost use lib.ListN.{length, set};
 ghost use Rattle.rules.specs.Paper.{judgedReply};
 ghost use Rattle.walks.specs.Rows.{rows};
 ghost use Rattle.boxwork.specs.Says.{BuildSays, CheckSays, UpdateSays};
-use drawing::compare::Missed;
+use drawing::compare::Miss;
 use rules::Judged;
 use rules::Refusal;
 
@@ -26,7 +26,7 @@ pub fn build(
     let Judged::Fine = j else {
         return j;
     };
-    drawing::grow::start_all(m as usize, heads, x, y, boxes);
+    drawing::heads::draw_heads(true, m as usize, heads, x, y, boxes);
     drawing::grow::grow_all(n as usize, m as usize, tails, heads, weights, x, y, boxes);
     Judged::Fine
 }
@@ -48,7 +48,7 @@ pub fn check(
     let Judged::Fine = j else {
         return j;
     };
-    let missed = drawing::compare::find_missed(
+    let miss = drawing::compare::find_miss(
         n as usize,
         m as usize,
         tails,
@@ -58,7 +58,7 @@ pub fn check(
         y,
         boxes,
     );
-    let Missed::At { arc, node } = missed else {
+    let Miss::First { arc, node } = miss else {
         return Judged::Fine;
     };
     Judged::Refused(Refusal::BoxMisses { arc, node })
@@ -92,7 +92,7 @@ pub fn update(
         return j;
     };
     set_weight(weights, arc, weight);
-    drawing::grow::grow_heads(m as usize, heads, x, y, boxes);
+    drawing::heads::draw_heads(false, m as usize, heads, x, y, boxes);
     drawing::grow::grow_all(n as usize, m as usize, tails, heads, weights, x, y, boxes);
     Judged::Fine
 }

@@ -18,11 +18,12 @@ use Rattle.settling.specs.Labels.{lengthOf, arcsOf}
 use Rattle.settling.specs.Run.{searchOf}
 use Rattle.settling.specs.Trace.{traceOf}
 use Rattle.judging.specs.Order.{searchJudged, boxedJudged, buildJudged, checkJudged, updateJudged}
-use Rattle.drawing.specs.declared.compare.Missed.{Missed}
-use Rattle.drawing.specs.declared.compare.Missed.the-variants.{Nothing, At}
+use Rattle.drawing.specs.declared.compare.Miss.{Miss}
+use Rattle.drawing.specs.declared.compare.Miss.the-variants.{Nowhere, First}
 use Rattle.drawing.specs.Leads.{leadsTo}
-use Rattle.drawing.specs.Grown.{headBox, grownBy}
-use Rattle.drawing.specs.Missed.{missesB}
+use Rattle.drawing.specs.Heads.{headBox}
+use Rattle.drawing.specs.Grown.{grownBy}
+use Rattle.drawing.specs.Missed.{missesNode}
 use Rattle.boxwork.specs.Says.{reweighted}
 
 -- a reply, with the route or weight row and the box row afterwards
@@ -91,22 +92,22 @@ module _ (test : ℕ → ℕ → Bool) (n : ℕ) where
   lowestNode e zero = 0
   lowestNode e (suc k) = cond (eqb (lowestNode e k) 0) (cond (test (suc k) e) (suc k) 0) (lowestNode e k)
 
-  unfoldable pub orArc : Missed → ℕ → ℕ → Missed
-  orArc (At e t) k node = At e t
-  orArc Nothing k node = cond (eqb node 0) Nothing (At k node)
+  unfoldable pub orArc : Miss → ℕ → ℕ → Miss
+  orArc (First e t) k node = First e t
+  orArc Nowhere k node = cond (eqb node 0) Nowhere (First k node)
 
   -- of the arcs 1..k
-  unfoldable pub lowestArc : ℕ → Missed
-  lowestArc zero = Nothing
+  unfoldable pub lowestArc : ℕ → Miss
+  lowestArc zero = Nowhere
   lowestArc (suc k) = orArc (lowestArc k) (suc k) (lowestNode (suc k) n)
 
-abbrev pub missedReply : Missed → Reply
-missedReply Nothing = accepted []
-missedReply (At e t) = refusal (BoxMisses e t)
+abbrev pub missReply : Miss → Reply
+missReply Nowhere = accepted []
+missReply (First e t) = refusal (BoxMisses e t)
 
 unfoldable pub checkTold : ℕ → ℕ → Rows → List ℤ → List ℤ → List ℤ → Told
 checkTold n m R x y boxes =
-    orTold (checkJudged n m R x y boxes) [] [] (record { reply = missedReply (lowestArc (missesB R n m boxes x y) n m); numbers = []; boxes = [] })
+    orTold (checkJudged n m R x y boxes) [] [] (record { reply = missReply (lowestArc (missesNode R n m boxes x y) n m); numbers = []; boxes = [] })
 
 -- ---- S(e)
 

@@ -21,16 +21,16 @@ use Rattle.judging.proofs.FineLaws.{SearchLent, search-fine, boxed-fine, build-
 use Rattle.search.specs.Says.{Answers, Says, SearchSays, BoxedSays, refused, answered}
 use Rattle.search.specs.Networks.{answers-alike, all-arcs, held-arcs}
 use Rattle.search.proofs.Answering.{found-answers, none-answers}
-use Rattle.drawing.specs.declared.compare.Missed.{Missed}
-use Rattle.drawing.specs.declared.compare.Missed.the-variants.{Nothing, At}
-use Rattle.drawing.specs.Drawn.{Drawn}
-use Rattle.drawing.specs.Missed.{missesB, FirstOf}
-use Rattle.drawing.proofs.DrawnLaws.{drawn-none, drawn-next}
 use Rattle.boxwork.proofs.ReweightedLaws.{sound-reweighted}
+use Rattle.drawing.specs.declared.compare.Miss.{Miss}
+use Rattle.drawing.specs.declared.compare.Miss.the-variants.{Nowhere, First}
+use Rattle.drawing.specs.Drawn.{Drawn, boxRow}
+use Rattle.drawing.specs.Missed.{missesNode, IsFirst}
+use Rattle.drawing.proofs.DrawnLaws.{puts-box, drawn-none, drawn-next}
 use Rattle.boxwork.specs.Says.{BuildSays, CheckSays, UpdateSays, reweighted}
 use Rattle.boxwork.proofs.Meaning.{tight-made, updated-made, missed-first, missed-none}
 use Rattle.worked.specs.LowestLaws.{lowest-arc}
-use Rattle.worked.specs.Computed.{Told, orTold, answerOf, searchTold, boxedTold, heldBy, drawnTo, tightOf, mendedOf, buildTold, updateTold, lowestArc, missedReply, checkTold}
+use Rattle.worked.specs.Computed.{Told, orTold, answerOf, searchTold, boxedTold, heldBy, drawnTo, tightOf, mendedOf, buildTold, updateTold, lowestArc, missReply, checkTold}
 
 -- ---- Searches
 
@@ -62,12 +62,12 @@ module _ (n m : ℕ) (R : Rows) (s t : ℕ) (row : List ℕ) where
 -- ---- Build and update
 
 drawn-to : {Is : ℕ → Box → Box → Type 0} (draw : ℕ → Box → Box) (m : ℕ) (row : List ℤ) → 4 * m ≤ length row
-    → ((e : ℕ) → 1 ≤ e → e ≤ m → Is e (boxOf row e) (draw e (boxOf row e))) → Drawn m Is row (drawnTo draw m row)
+    → ((e : ℕ) → 1 ≤ e → e ≤ m → Is e (boxOf row e) (draw e (boxOf row e))) → Drawn boxRow m Is row (drawnTo draw m row)
 unfolding drawnTo
 drawn-to draw zero row long h = drawn-none
 drawn-to {Is} draw (suc k) row long h =
-    subst (λ (j : ℕ). Drawn j Is row (drawnTo draw (suc k) row)) (add-one k)
-    (drawn-next (drawn-to draw k row (omega arith) (λ e low high. h e low (omega arith))) _ (omega arith) (h (k + 1) (omega arith) (omega arith)))
+    subst (λ (j : ℕ). Drawn boxRow j Is row (drawnTo draw (suc k) row)) (add-one k)
+    (drawn-next puts-box (drawn-to draw k row (omega arith) (λ e low high. h e low (omega arith))) _ (omega arith) (h (k + 1) (omega arith) (omega arith)))
 
 module _ (n m : ℕ) (R : Rows) (x y boxes : List ℤ) where
   build-by : (j : Judged) → buildJudged n m R x y boxes ≡ j
@@ -103,15 +103,15 @@ module _ (n m : ℕ) (R : Rows) (x y boxes : List ℤ) where
 -- ---- Check
 
 module _ (n m : ℕ) (R : Rows) (x y boxes : List ℤ) where
-  check-missed : checkJudged n m R x y boxes ≡ Fine → (found : Missed) → FirstOf (missesB R n m boxes x y) n m found → CheckSays n m R x y boxes (missedReply found)
-  check-missed e Nothing h = CheckSays.consistent e (missed-none (build-fine n m R x y boxes (check-fine n m R x y boxes e .0) .sound) x y boxes h)
-  check-missed e (At i t) h = CheckSays.missed e (missed-first (build-fine n m R x y boxes (check-fine n m R x y boxes e .0) .sound) x y boxes h)
+  check-missed : checkJudged n m R x y boxes ≡ Fine → (found : Miss) → IsFirst (missesNode R n m boxes x y) n m found → CheckSays n m R x y boxes (missReply found)
+  check-missed e Nowhere h = CheckSays.consistent e (missed-none (build-fine n m R x y boxes (check-fine n m R x y boxes e .0) .sound) x y boxes h)
+  check-missed e (First i t) h = CheckSays.missed e (missed-first (build-fine n m R x y boxes (check-fine n m R x y boxes e .0) .sound) x y boxes h)
 
   check-by : (j : Judged) → checkJudged n m R x y boxes ≡ j
-      → CheckSays n m R x y boxes (orTold j [] [] (record { reply = missedReply (lowestArc (missesB R n m boxes x y) n m); numbers = []; boxes = [] }) .reply)
+      → CheckSays n m R x y boxes (orTold j [] [] (record { reply = missReply (lowestArc (missesNode R n m boxes x y) n m); numbers = []; boxes = [] }) .reply)
   unfolding orTold
   check-by (Refused r) e = CheckSays.refused e
-  check-by Fine e = check-missed e (lowestArc (missesB R n m boxes x y) n m) (lowest-arc (missesB R n m boxes x y) n m)
+  check-by Fine e = check-missed e (lowestArc (missesNode R n m boxes x y) n m) (lowest-arc (missesNode R n m boxes x y) n m)
 
   pub check-told : CheckSays n m R x y boxes (checkTold n m R x y boxes .reply)
   unfolding checkTold

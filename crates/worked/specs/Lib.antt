@@ -6,4 +6,4 @@ pub mod ComputedLaws
 pub mod Plans
 pub mod Tests
 pub mod Table
-pub mod Learners
+pub mod Excluded

@@ -7,9 +7,9 @@ use native.Mathlib.Decide.{ℕ-discrete}
 use borrow.Author.Tests.{eqb-true, eqb-false}
 use lib.Dec.{eqb}
 use Rattle.settling.proofs.Choice.{cond-by}
-use Rattle.drawing.specs.declared.compare.Missed.{Missed}
-use Rattle.drawing.specs.declared.compare.Missed.the-variants.{Nothing, At}
-use Rattle.drawing.specs.Missed.{FirstOf}
+use Rattle.drawing.specs.declared.compare.Miss.{Miss}
+use Rattle.drawing.specs.declared.compare.Miss.the-variants.{Nowhere, First}
+use Rattle.drawing.specs.Missed.{IsFirst}
 use Rattle.worked.specs.Computed.{lowestNode, orArc, lowestArc}
 
 module _ (test : ℕ → ℕ → Bool) (n : ℕ) where
@@ -47,9 +47,9 @@ module _ (test : ℕ → ℕ → Bool) (n : ℕ) where
         first = r .first;
       })
 
-  or-arc : (k : ℕ) (found : Missed) (v : ℕ) → FirstOf test n k found → Node (suc k) n v → FirstOf test n (suc k) (orArc test n found (suc k) v)
+  or-arc : (k : ℕ) (found : Miss) (v : ℕ) → IsFirst test n k found → Node (suc k) n v → IsFirst test n (suc k) (orArc test n found (suc k) v)
   unfolding orArc
-  or-arc k (At e t) v h r = record {
+  or-arc k (First e t) v h r = record {
     arc-low = h .arc-low;
     arc-high = omega (arith, h .arc-high);
     node-low = h .node-low;
@@ -58,8 +58,8 @@ module _ (test : ℕ → ℕ → Bool) (n : ℕ) where
     arc-first = h .arc-first;
     node-first = h .node-first;
   }
-  or-arc k Nothing v h r =
-      cond-by (FirstOf test n (suc k)) (eqb v 0) _ _
+  or-arc k Nowhere v h r =
+      cond-by (IsFirst test n (suc k)) (eqb v 0) _ _
       (λ z. λ t e a b c d. elim (ℕ-discrete e (suc k)) [ yes same ↦ ap (test t) same ∙ r .none (eqb-true v 0 z) t a b | no other ↦ h t e a b c (omega arith) ])
       (λ z. record {
         arc-low = omega arith;
@@ -71,7 +71,7 @@ module _ (test : ℕ → ℕ → Bool) (n : ℕ) where
         node-first = r .first;
       })
 
-  pub lowest-arc : (k : ℕ) → FirstOf test n k (lowestArc test n k)
+  pub lowest-arc : (k : ℕ) → IsFirst test n k (lowestArc test n k)
   unfolding lowestArc
   lowest-arc zero = λ t e a b c d. absurd (omega arith)
   lowest-arc (suc k) = or-arc k (lowestArc test n k) _ (lowest-arc k) (lowest-node (suc k) n)

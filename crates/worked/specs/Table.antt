@@ -29,7 +29,7 @@ use Rattle.judging.proofs.FineLaws.{network-fine}
 use Rattle.search.specs.Says.{SearchSays, BoxedSays}
 use Rattle.drawing.specs.Leads.{leadsAt, lengthsTo}
 use Rattle.drawing.specs.Grown.{grownIf, grownBy}
-use Rattle.drawing.specs.Missed.{missesB}
+use Rattle.drawing.specs.Missed.{missesNode}
 use Rattle.boxwork.specs.Says.{BuildSays, CheckSays, UpdateSays}
 use Rattle.worked.specs.Plans.{Plan, hall, reweightedHall, oneWay, zeros, behind, west, triangle, detour, triangleBoxes, mendedBoxes, hallBoxes, raisedBoxes, fullBoxes, treeBoxes, blank, route}
 use Rattle.worked.specs.Computed.{Told, orTold, answerOf, searchTold, boxedTold, drawnTo, buildTold, updateTold, lowestNode, orArc, lowestArc, checkTold, membersFrom, membersOf}
@@ -190,5 +190,5 @@ unfolding
     orTold answerOf searchTold boxedTold drawnTo buildTold updateTold lowestNode orArc lowestArc checkTold membersFrom
     networkJudged placedJudged shapedJudged searchJudged boxedJudged buildJudged checkJudged updateJudged each smaller larger
     before startOf labelled offered marked arcStep relaxed settleOf better leaderOf nearestOf afterPick runOf
-    fits firstOf arcFits intoOf afterInto traceOf onShortest leadsAt lengthsTo grownIf grownBy missesB
+    fits firstOf arcFits intoOf afterInto traceOf onShortest leadsAt lengthsTo grownIf grownBy missesNode
 table-right = each-right table refl

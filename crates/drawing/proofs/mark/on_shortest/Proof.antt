@@ -1,8 +1,8 @@
--- `drawing::grow::on_shortest` meets its contract. Assumes nothing.
+-- `drawing::mark::on_shortest` meets its contract. Assumes nothing.
 use borrow.Author.Needs.{needs}
 use Rattle.settling.specs.LengthsTo.{onShortest}
-use Rattle.drawing.proofs.grow.on_shortest.Statement.{statement}
-use Rattle.drawing.proofs.grow.on_shortest.Tie as tie
+use Rattle.drawing.proofs.mark.on_shortest.Statement.{statement}
+use Rattle.drawing.proofs.mark.on_shortest.Tie as tie
 
 returns : tie.Need-returns
 unfolding onShortest
