@@ -43,8 +43,10 @@ class Console:
         """The cost of the calls, made after those that stand before. Each must be replied as expected."""
         less, more = self.said(before), self.said(before + calls)
         replies = [line.split() for line in more.said[len(before):]]
+        if len(replies) != len(calls):
+            raise Failed(f"the console replied to {len(replies)} of {len(calls)} lines")
         expected = reply.split()
-        for call, words in zip(calls, replies, strict=True):
+        for call, words in zip(calls, replies):
             if words[: len(expected)] != expected:
                 raise Failed(f"the console replies to `{call}` `{' '.join(words)}`, and not `{reply}`")
         parts: Counter[str] = Counter()
