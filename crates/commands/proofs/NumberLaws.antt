@@ -1,18 +1,20 @@
 -- Laws of the limits of 32 bits, by the tests of a number that is held. Assumes nothing.
-use mathlib.Core.Path.{_≡_}
-use mathlib.Core.Bool.{true, false, cond}
-use Prim.Native.Nat.{ℕ, _≤_, _<_, min}
+use mathlib.Core.Path.{_≡_, refl, ap}
+use mathlib.Core.Bool.{cond}
+use Prim.Native.Nat.{ℕ, zero, suc, _+_, _-_, _≤_, _<_, min}
 use native.Mathlib.Decide.{decLe}
 use native.Mathlib.Omega.{arith}
 use lib.Dec.{leb}
-use lib.IntN.{ℤ, pos, negsuc}
-use lib.Signed.{ltZ}
-use borrow.Author.Tests.{ltb-true, ltb-false, le-leb, lt-leb}
+use lib.IntN.{pos, negsuc, negℤ, _-ℤ_, +ℤ-idl}
+use mir.Syntax.{w32}
+use mir.Val.{SFits, toZ, ofZ}
+use mir.Facts.{toZ-pos, toZ-ofZ}
+use borrow.Author.Tests.{le-leb, lt-leb}
 use Rattle.scan.specs.Held.{heldNatural, heldInteger}
 use Rattle.scan.specs.declared.numbers.Natural.{Natural}
 use Rattle.scan.specs.declared.numbers.Natural.the-variants.{Number, NoNumber}
 use Rattle.scan.specs.declared.numbers.Integer.{Integer}
-use Rattle.scan.specs.declared.numbers.Integer.the-variants.{Whole, NoWhole}
+use Rattle.scan.specs.declared.numbers.Integer.the-variants.{Plain, Minus, NoInteger}
 use Rattle.commands.specs.Numbers.{countTo, signedOf}
 use Rattle.commands.specs.declared.Fault.the-variants.{BeyondType}
 use Rattle.commands.specs.declared.numbers.Count.the-variants as count
@@ -34,9 +36,9 @@ count-held most n NoNumber h e = rw e
 
 pub signed-held : (n m : Integer) → n ≡ heldInteger m → signedOf n ≡ signedOf m
 unfolding heldInteger signedOf
-signed-held n (Whole (pos v)) e = rw e (within 2147483647 10000000000 (omega arith) (λ x. signed.Is (pos x)) (signed.Not BeyondType) v)
-signed-held n (Whole (negsuc v)) e = rw e (within 2147483647 9999999999 (omega arith) (λ x. signed.Is (negsuc x)) (signed.Not BeyondType) v)
-signed-held n NoWhole e = rw e
+signed-held n (Plain v) e = rw e (within 2147483647 10000000000 (omega arith) (λ x. signed.Is (pos x)) (signed.Not BeyondType) v)
+signed-held n (Minus v) e = rw e (within 2147483648 10000000000 (omega arith) (λ x. signed.Is (negℤ (pos x))) (signed.Not BeyondType) v)
+signed-held n NoInteger e = rw e
 
 -- ---- a number by the tests of its limits
 
@@ -48,17 +50,36 @@ pub count-in : (most v : ℕ) → v ≤ most → count.Is v ≡ countTo most (Nu
 unfolding countTo
 count-in most v h = rw (le-leb v most h)
 
-pub signed-low : (z : ℤ) → ltZ z (negsuc 2147483647) ≡ true → signed.Not BeyondType ≡ signedOf (Whole z)
+pub plain-high : (v : ℕ) → 2147483647 < v → signed.Not BeyondType ≡ signedOf (Plain v)
 unfolding signedOf
-signed-low (pos v) e = cc
-signed-low (negsuc v) e = rw (lt-leb v 2147483647 (ltb-true 2147483647 v e))
+plain-high v h = rw (lt-leb v 2147483647 h)
 
-pub signed-high : (z : ℤ) → ltZ (pos 2147483647) z ≡ true → signed.Not BeyondType ≡ signedOf (Whole z)
+pub plain-in : (v : ℕ) → v ≤ 2147483647 → signed.Is (pos v) ≡ signedOf (Plain v)
 unfolding signedOf
-signed-high (pos v) e = rw (lt-leb v 2147483647 (ltb-true 2147483647 v e))
-signed-high (negsuc v) e = cc
+plain-in v h = rw (le-leb v 2147483647 h)
 
-pub signed-in : (z : ℤ) → ltZ z (negsuc 2147483647) ≡ false → ltZ (pos 2147483647) z ≡ false → signed.Is z ≡ signedOf (Whole z)
+pub minus-high : (v : ℕ) → 2147483648 < v → signed.Not BeyondType ≡ signedOf (Minus v)
 unfolding signedOf
-signed-in (pos v) e f = rw (le-leb v 2147483647 (ltb-false 2147483647 v f))
-signed-in (negsuc v) e f = rw (le-leb v 2147483647 (ltb-false 2147483647 v e))
+minus-high v h = rw (lt-leb v 2147483648 h)
+
+pub minus-in : (v : ℕ) → v ≤ 2147483648 → signed.Is (negℤ (pos v)) ≡ signedOf (Minus v)
+unfolding signedOf
+minus-in v h = rw (le-leb v 2147483648 h)
+
+-- ---- a negative number of 32 bits
+
+less-one : (v : ℕ) → 1 ≤ v → negℤ (pos (v - 1)) -ℤ pos 1 ≡ negℤ (pos v)
+less-one zero h = absurd (omega arith)
+less-one (suc zero) h = refl
+less-one (suc (suc v)) h = let e : suc (suc v) - 1 ≡ suc v = omega arith in rw e (ap (λ (k : ℕ). negsuc (suc k)) (omega arith))
+
+pub negative-fits : (v : ℕ) → v ≤ 2147483648 → SFits w32 (negℤ (pos v))
+negative-fits zero h = record { sfits = omega arith }
+negative-fits (suc v) h = record { sfits = omega arith }
+
+-- negated in 32 bits, less one
+pub negated-is : (v : ℕ) → 1 ≤ v → v ≤ 2147483648 → pos 0 -ℤ toZ w32 (v - 1) ≡ negℤ (pos (v - 1))
+negated-is v h k = rw (toZ-pos w32 {n = v - 1} (omega arith)) (+ℤ-idl (negℤ (pos (v - 1))))
+
+pub negative-is : (v : ℕ) → 1 ≤ v → v ≤ 2147483648 → toZ w32 (ofZ w32 (pos 0 -ℤ toZ w32 (v - 1))) -ℤ pos 1 ≡ negℤ (pos v)
+negative-is v h k = rw (negated-is v h k, toZ-ofZ (negative-fits (v - 1) (omega arith))) (less-one v h)

@@ -2,11 +2,11 @@
 use Prim.Native.Nat.{ℕ}
 use mathlib.Core.Bool.{cond}
 use lib.Dec.{leb}
-use lib.IntN.{pos, negsuc}
+use lib.IntN.{pos, negℤ}
 use Rattle.scan.specs.declared.numbers.Natural.{Natural}
 use Rattle.scan.specs.declared.numbers.Natural.the-variants.{Number, NoNumber}
 use Rattle.scan.specs.declared.numbers.Integer.{Integer}
-use Rattle.scan.specs.declared.numbers.Integer.the-variants.{Whole, NoWhole}
+use Rattle.scan.specs.declared.numbers.Integer.the-variants.{Plain, Minus, NoInteger}
 use Rattle.commands.specs.declared.Fault.the-variants.{Misspelt, BeyondType}
 use Rattle.commands.specs.declared.numbers.Count.{Count}
 use Rattle.commands.specs.declared.numbers.Count.the-variants as count
@@ -28,6 +28,6 @@ byteOf n = countTo 255 n
 
 -- a number that may be negative: -2147483648..2147483647
 unfoldable pub signedOf : Integer → Signed
-signedOf (Whole (pos v)) = cond (leb v 2147483647) (signed.Is (pos v)) (signed.Not BeyondType)
-signedOf (Whole (negsuc v)) = cond (leb v 2147483647) (signed.Is (negsuc v)) (signed.Not BeyondType)
-signedOf NoWhole = signed.Not Misspelt
+signedOf (Plain v) = cond (leb v 2147483647) (signed.Is (pos v)) (signed.Not BeyondType)
+signedOf (Minus v) = cond (leb v 2147483648) (signed.Is (negℤ (pos v))) (signed.Not BeyondType)
+signedOf NoInteger = signed.Not Misspelt

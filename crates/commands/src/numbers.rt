@@ -1,5 +1,7 @@
 // The numbers of a command: 32 bits, with and without a sign.
 ghost use mathlib.Core.Path.{_≡_};
+ghost use Prim.Native.Nat.{_≤_};
+ghost use lib.IntN.{pos, negℤ};
 ghost use Rattle.scan.specs.Numbers.{naturalOf, integerOf};
 ghost use Rattle.commands.specs.Numbers.{countTo, countOf, byteOf, signedOf};
 use crate::Fault;
@@ -48,19 +50,32 @@ pub fn read_byte(s: &[u8]) -> Count
     read_to(s, 255)
 }
 
+// -v; one is taken off first, since 2147483648 is no i32.
+fn negative(v: u64) -> i32
+    requires { ⌜ (1 ≤ v) × (v ≤ 2147483648) ⌝ }
+    ensures { λ r. ⌜ r ≡ negℤ (pos v) ⌝ }
+{
+    -((v - 1) as i32) - 1
+}
+
 // A word as a number of -2147483648..2147483647.
 pub fn read_signed(s: &[u8]) -> Signed
     ensures { λ r. ⌜ r ≡ signedOf (integerOf (now (s .entry))) ⌝ }
 {
     let n = read_integer(s);
-    let Integer::Whole(z) = n else {
-        return Signed::Not(Fault::Misspelt);
-    };
-    if z < -2147483648 {
-        return Signed::Not(Fault::BeyondType);
+    match n {
+        Integer::Plain(v) => {
+            if 2147483647 < v {
+                return Signed::Not(Fault::BeyondType);
+            }
+            Signed::Is(v as i32)
+        }
+        Integer::Minus(v) => {
+            if 2147483648 < v {
+                return Signed::Not(Fault::BeyondType);
+            }
+            Signed::Is(negative(v))
+        }
+        Integer::NoInteger => Signed::Not(Fault::Misspelt),
     }
-    if 2147483647 < z {
-        return Signed::Not(Fault::BeyondType);
-    }
-    Signed::Is(z as i32)
 }

@@ -17,12 +17,14 @@ use Rattle.scan.specs.Held.{held, heldZ, heldNumbers, heldLine}
 use Rattle.scan.specs.declared.holding.Numbers.{Numbers}
 use Rattle.scan.specs.declared.line.Line.{Line}
 use Rattle.scan.specs.declared.line.Line.the-variants.{Comment, Problem, Data, Faulty}
-use Rattle.dimacs.specs.Rules.{naturals, noneAbove, within}
+use Rattle.dimacs.specs.Rules.{columnOf, naturals, noneAbove, within}
 use Rattle.dimacs.specs.Gr.{grRules}
 use Rattle.dimacs.specs.Co.{coRules}
 use Rattle.dimacs.specs.Formats.{rulesOf}
-use Rattle.dimacs.specs.Judgement.{again, problemJudged, dataJudged, judged}
+use Rattle.dimacs.specs.Judgement.{announced, again, problemJudged, dataJudged, judged}
 use Rattle.dimacs.specs.Fair.{Small, Modest, ModestLimits, Fair, FormatFair}
+use Rattle.dimacs.specs.declared.rows.Column.{Column}
+use Rattle.dimacs.specs.declared.rows.Column.the-variants.{First, Second, Third}
 use Rattle.dimacs.specs.declared.format.Limits.{Limits}
 use Rattle.dimacs.specs.declared.format.Rules.{Rules}
 use Rattle.dimacs.specs.declared.format.Format.{Format}
@@ -36,33 +38,39 @@ both false b e = absurd (clash e)
 
 -- ---- every format's rules
 
+-- each number of a line that may have so many
+each-column : (a b c most : ℕ) → a ≤ most → b ≤ most → c ≤ most → (which : Column) → columnOf which (naturals a b c) ≤ most
+each-column a b c most h i j First = h
+each-column a b c most h i j Second = i
+each-column a b c most h i j Third = j
+
 naturals-modest : (a b c : ℕ) → a < 10_000_000 → b < 10_000_000 → c < 10_000_000 → Modest (naturals a b c)
 naturals-modest a b c h i j = record { first = h; second = i; third = j; x = omega arith; y = omega arith }
 
-pub fair-of : (F : Format) → FormatFair F → (problem : Numbers) → problem .second ≤ 512 → Fair (rulesOf F problem)
+pub fair-of : (F : Format) → FormatFair F → (problem : Numbers) → problem .first ≤ 512 → Fair (rulesOf F problem)
 unfolding grRules coRules
 fair-of Graph f problem h =
     record {
-      problem = record { least = naturals-modest 0 1 0 (omega arith) (omega arith) (omega arith); most = naturals-modest 0 512 2048 (omega arith) (omega arith) (omega arith) };
+      problem = record { least = naturals-modest 1 0 0 (omega arith) (omega arith) (omega arith); most = naturals-modest 512 2048 0 (omega arith) (omega arith) (omega arith) };
       entries = record {
         least = naturals-modest 1 1 0 (omega arith) (omega arith) (omega arith);
-        most = naturals-modest (problem .second) (problem .second) 1_000_000 (omega arith) (omega arith) (omega arith);
+        most = naturals-modest (problem .first) (problem .first) 1_000_000 (omega arith) (omega arith) (omega arith);
       };
       nodes = omega arith;
-      count = omega arith;
+      counts = each-column 512 2048 0 2048 (omega arith) (omega arith) (omega arith);
       low = λ e. absurd (clash e);
       high = λ e. absurd (clash e);
       all = λ e. absurd (clash e);
     }
 fair-of (Coordinates n) f problem h =
     record {
-      problem = record { least = naturals-modest 0 0 1 (omega arith) (omega arith) (omega arith); most = naturals-modest 0 0 512 (omega arith) (omega arith) (omega arith) };
+      problem = record { least = naturals-modest 1 0 0 (omega arith) (omega arith) (omega arith); most = naturals-modest 512 0 0 (omega arith) (omega arith) (omega arith) };
       entries = record {
         least = record { first = omega arith; second = omega arith; third = omega arith; x = omega arith; y = omega arith };
         most = record { first = omega arith; second = omega arith; third = omega arith; x = omega arith; y = omega arith };
       };
       nodes = omega arith;
-      count = omega arith;
+      counts = each-column 512 0 0 2048 (omega arith) (omega arith) (omega arith);
       low = λ e. omega arith;
       high = λ e. omega arith;
       all = λ e. omega arith;
@@ -88,6 +96,11 @@ none-above a b e =
     let e1 = both p q (e2 .0) in
     record { first = leb-true _ _ (e1 .0); second = leb-true _ _ (e1 .1); third = leb-true _ _ (e2 .1); x = e3 .1; y = e4 .1 }
 
+pub column-below : (a b : Numbers) → NoneAbove a b → (which : Column) → columnOf which a ≤ columnOf which b
+column-below a b h First = h .first
+column-below a b h Second = h .second
+column-below a b h Third = h .third
+
 -- what within says
 pub record Inside (l : Limits) (ns : Numbers) : Type 0 where
   pub low : NoneAbove (l .least) ns
@@ -99,10 +112,10 @@ inside l ns e =
     let p = both (noneAbove (l .least) ns) (noneAbove ns (l .most)) e in
     record { low = none-above (l .least) ns (p .0); high = none-above ns (l .most) (p .1) }
 
-pub once-in : (R : Rules) (ns : Numbers) → Fair R → within (R .entries) ns ≡ true → R .once ≡ true → (1 ≤ ns .third) × (ns .third ≤ 2048)
+pub once-in : (R : Rules) (ns : Numbers) → Fair R → within (R .entries) ns ≡ true → R .once ≡ true → (1 ≤ ns .first) × (ns .first ≤ 2048)
 once-in R ns f e o =
     let i = inside (R .entries) ns e in
-    (omega (arith, i .low .third, f .low o), omega (arith, i .high .third, f .high o))
+    (omega (arith, i .low .first, f .low o), omega (arith, i .high .first, f .high o))
 
 -- ---- a test against a limit, of what is held
 
@@ -182,13 +195,13 @@ passes-fine false r e = absurd (let z : _≡_ {A = ℕ} 0 1 = cc in omega arith)
 
 pub record ProblemFine (R : Rules) (h : Head) (ns : Numbers) : Type 0 where
   pub inside : within (R .problem) ns ≡ true
-  pub agrees : leb (R .fewest) (ns .third) && leb (ns .third) (R .most) ≡ true
+  pub agrees : leb (R .fewest) (announced R ns) && leb (announced R ns) (R .most) ≡ true
   pub unseen : not (h .seen) ≡ true
 
 pub problem-fine : (R : Rules) (h : Head) (k : ℕ) (ns : Numbers) → problemJudged R h k ns ≡ Fine → ProblemFine R h ns
 unfolding problemJudged
 problem-fine R h k ns e =
-    let agreed = leb (R .fewest) (ns .third) && leb (ns .third) (R .most) in
+    let agreed = leb (R .fewest) (announced R ns) && leb (announced R ns) (R .most) in
     let d = or-fine (passes (not (h .seen)) (OutOfOrder k)) (orElse (passes (within (R .problem) ns) (BeyondLimits k)) (orElse (passes agreed (CountsDisagree k)) Fine)) e in
     let f = or-fine (passes (within (R .problem) ns) (BeyondLimits k)) (orElse (passes agreed (CountsDisagree k)) Fine) (d .1) in
     let g = or-fine (passes agreed (CountsDisagree k)) Fine (f .1) in
@@ -197,18 +210,18 @@ problem-fine R h k ns e =
 pub record DataFine (R : Rules) (h : Head) (taken : List Bool) (ns : Numbers) : Type 0 where
   pub seen : h .seen ≡ true
   pub inside : within (R .entries) ns ≡ true
-  pub first-time : again R taken (ns .third) ≡ false
-  pub room : h .count < h .problem .third
+  pub first-time : again R taken (ns .first) ≡ false
+  pub room : h .count < announced R (h .problem)
 
 pub data-fine : (R : Rules) (h : Head) (taken : List Bool) (k : ℕ) (ns : Numbers) → dataJudged R h taken k ns ≡ Fine → DataFine R h taken ns
 unfolding dataJudged
 data-fine R h taken k ns e =
-    let last = orElse (passes (ltb (h .count) (h .problem .third)) (CountsDisagree k)) Fine in
-    let third = orElse (passes (not (again R taken (ns .third))) (NodeAgain k)) last in
+    let last = orElse (passes (ltb (h .count) (announced R (h .problem))) (CountsDisagree k)) Fine in
+    let third = orElse (passes (not (again R taken (ns .first))) (NodeAgain k)) last in
     let d = or-fine (passes (h .seen) (OutOfOrder k)) (orElse (passes (within (R .entries) ns) (BeyondLimits k)) third) e in
     let f = or-fine (passes (within (R .entries) ns) (BeyondLimits k)) third (d .1) in
-    let g = or-fine (passes (not (again R taken (ns .third))) (NodeAgain k)) last (f .1) in
-    let i = or-fine (passes (ltb (h .count) (h .problem .third)) (CountsDisagree k)) Fine (g .1) in
+    let g = or-fine (passes (not (again R taken (ns .first))) (NodeAgain k)) last (f .1) in
+    let i = or-fine (passes (ltb (h .count) (announced R (h .problem))) (CountsDisagree k)) Fine (g .1) in
     record {
       seen = passes-fine _ _ (d .0);
       inside = passes-fine _ _ (f .0);

@@ -16,5 +16,5 @@ formatLine (Coordinates n) s = coLine s
 
 -- the rules after the problem line
 abbrev pub rulesOf : Format → Numbers → Rules
-rulesOf Graph problem = grRules (problem .second)
+rulesOf Graph problem = grRules (problem .first)
 rulesOf (Coordinates n) problem = coRules n
