@@ -39,14 +39,14 @@ pub fn judge_arcs(n: u32, m: u32, tails: &[u32], heads: &[u32], weights: &[u32])
         return Judged::Fine;
     }
     let places = m as usize;
-    let mut i = 0;
-    while i < places {
-        if !good_arc(n, tails[i], heads[i], weights[i]) {
+    let mut at = 0;
+    while at < places {
+        if !good_arc(n, tails[at], heads[at], weights[at]) {
             return Judged::Refused(Refusal::BadArc {
-                arc: (i + 1) as u32,
+                arc: (at + 1) as u32,
             });
         }
-        i += 1;
+        at += 1;
     }
     Judged::Fine
 }

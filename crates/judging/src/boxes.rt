@@ -62,14 +62,14 @@ pub fn judge_boxes(m: usize, boxes: &[i32]) -> Judged
     if all_boxes_good(m, boxes) {
         return Judged::Fine;
     }
-    let mut e = 0;
-    while e < m {
-        if !good_box(boxes, 4 * e) {
+    let mut at = 0;
+    while at < m {
+        if !good_box(boxes, 4 * at) {
             return Judged::Refused(Refusal::BadBox {
-                arc: (e + 1) as u32,
+                arc: (at + 1) as u32,
             });
         }
-        e += 1;
+        at += 1;
     }
     Judged::Fine
 }

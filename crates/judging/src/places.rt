@@ -43,14 +43,14 @@ pub fn judge_places(n: usize, x: &[i32], y: &[i32]) -> Judged
     if all_places_good(n, x, y) {
         return Judged::Fine;
     }
-    let mut i = 0;
-    while i < n {
-        if !good_place(x, y, i) {
+    let mut at = 0;
+    while at < n {
+        if !good_place(x, y, at) {
             return Judged::Refused(Refusal::BadCoordinate {
-                node: (i + 1) as u32,
+                node: (at + 1) as u32,
             });
         }
-        i += 1;
+        at += 1;
     }
     Judged::Fine
 }

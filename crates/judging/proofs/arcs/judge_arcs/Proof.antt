@@ -1,4 +1,4 @@
--- `judging::arcs::judge_arcs` meets its contract. The loop's invariant: the arcs up to i are good.
+-- `judging::arcs::judge_arcs` meets its contract. The loop's invariant: the arcs up to at are good.
 use Prim.Native.Nat.{_+_, _-_, _≤_}
 use mathlib.Core.Path.{_≡_, sym, _∙_}
 use native.Mathlib.Omega.{arith}
@@ -13,10 +13,10 @@ use Rattle.judging.proofs.arcs.judge_arcs.Statement.{statement}
 use Rattle.judging.proofs.arcs.judge_arcs.Tie as tie
 
 abbrev Inv-loop : tie.InvT-loop
-Inv-loop n m tails heads weights places i₀ i = (i ≤ m) × (arcs n i (rows tails heads weights) ≡ Fine)
+Inv-loop n m tails heads weights places at₀ at = (at ≤ m) × (arcs n at (rows tails heads weights) ≡ Fine)
 
 abbrev μ-loop : tie.MeasureT-loop
-μ-loop n m tails heads weights places i₀ i = m - i
+μ-loop n m tails heads weights places at₀ at = m - at
 
 returns : tie.Need-returns Inv-loop μ-loop
 returns c = sym (is-fine _ (sym (c .before .all-arcs-good .ensures) ∙ c .if1 .taken))
@@ -52,10 +52,10 @@ returns-2 : tie.Need-returns-2 Inv-loop μ-loop
 returns-2 c =
     let a = c .before .before .before .before .before .before .before .before .before .before .before .before .args in
     let R = rows (a .tails .now) (a .heads .now) (a .weights .now) in
-    sym (each-first _ _ (c .before .before .before .before .before .before .loop .i) (a .m) (c .before .before .before .before .before .before .loop .inv .1) (sym (arc-next (a .n) R (c .before .before .before .before .before .before .loop .i)) ∙ (sym (c .before .good-arc .ensures) ∙ not-true _ (c .if2 .taken))) (omega arith))
+    sym (each-first _ _ (c .before .before .before .before .before .before .loop .at) (a .m) (c .before .before .before .before .before .before .loop .inv .1) (sym (arc-next (a .n) R (c .before .before .before .before .before .before .loop .at)) ∙ (sym (c .before .good-arc .ensures) ∙ not-true _ (c .if2 .taken))) (omega arith))
 
-add-i : tie.Need-add-i Inv-loop μ-loop
-add-i c = omega arith
+add-at : tie.Need-add-at Inv-loop μ-loop
+add-at c = omega arith
 
 loop-less : tie.Need-loop-less Inv-loop μ-loop
 loop-less c = omega arith
@@ -64,11 +64,11 @@ loop-again : tie.Need-loop-again Inv-loop μ-loop
 loop-again c =
     let a = c .before .before .before .before .before .before .before .before .before .before .before .before .args in
     let R = rows (a .tails .now) (a .heads .now) (a .weights .now) in
-    (omega arith, each-more _ _ (c .before .before .before .before .before .before .loop .i) (c .before .before .before .before .before .before .loop .inv .1) (sym (arc-next (a .n) R (c .before .before .before .before .before .before .loop .i)) ∙ (sym (c .before .good-arc .ensures) ∙ not-false _ (c .if2 .left))))
+    (omega arith, each-more _ _ (c .before .before .before .before .before .before .loop .at) (c .before .before .before .before .before .before .loop .inv .1) (sym (arc-next (a .n) R (c .before .before .before .before .before .before .loop .at)) ∙ (sym (c .before .good-arc .ensures) ∙ not-false _ (c .if2 .left))))
 
 returns-3 : tie.Need-returns-3 Inv-loop μ-loop
 returns-3 c =
-    let last : c .before .loop .i ≡ c .before .before .before .before .before .before .before .args .m = omega arith in
+    let last : c .before .loop .at ≡ c .before .before .before .before .before .before .before .args .m = omega arith in
     sym (rw last at (c .before .loop .inv .1))
 
 pub judge-arcs-spec : {M : Type 1} → statement M
@@ -90,7 +90,7 @@ judge-arcs-spec =
     add-t20
     cast-t21
     returns-2
-    add-i
+    add-at
     loop-less
     loop-again
     returns-3)

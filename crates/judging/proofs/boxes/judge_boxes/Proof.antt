@@ -1,4 +1,4 @@
--- `judging::boxes::judge_boxes` meets its contract. The loop's invariant: the boxes of the arcs up to e are well shaped.
+-- `judging::boxes::judge_boxes` meets its contract. The loop's invariant: the boxes of the arcs up to at are well shaped.
 use Prim.Native.Nat.{_+_, _-_, _≤_}
 use mathlib.Core.Path.{_≡_, sym, _∙_}
 use native.Mathlib.Omega.{arith}
@@ -12,10 +12,10 @@ use Rattle.judging.proofs.boxes.judge_boxes.Statement.{statement}
 use Rattle.judging.proofs.boxes.judge_boxes.Tie as tie
 
 abbrev Inv-loop : tie.InvT-loop
-Inv-loop m boxes e₀ e = (e ≤ m) × (shapes e boxes ≡ Fine)
+Inv-loop m boxes at₀ at = (at ≤ m) × (shapes at boxes ≡ Fine)
 
 abbrev μ-loop : tie.MeasureT-loop
-μ-loop m boxes e₀ e = m - e
+μ-loop m boxes at₀ at = m - at
 
 returns : tie.Need-returns Inv-loop μ-loop
 returns c = sym (is-fine _ (sym (c .before .all-boxes-good .ensures) ∙ c .if1 .taken))
@@ -38,10 +38,10 @@ cast-t9 c = omega arith
 returns-2 : tie.Need-returns-2 Inv-loop μ-loop
 returns-2 c =
     let a = c .before .before .before .before .before .before .args in
-    sym (each-first _ _ (c .before .before .before .loop .e) (a .m) (c .before .before .before .loop .inv .1) (sym (box-next (a .boxes .now) (c .before .before .before .loop .e)) ∙ (sym (c .before .good-box .ensures) ∙ not-true _ (c .if2 .taken))) (omega arith))
+    sym (each-first _ _ (c .before .before .before .loop .at) (a .m) (c .before .before .before .loop .inv .1) (sym (box-next (a .boxes .now) (c .before .before .before .loop .at)) ∙ (sym (c .before .good-box .ensures) ∙ not-true _ (c .if2 .taken))) (omega arith))
 
-add-e : tie.Need-add-e Inv-loop μ-loop
-add-e c = omega arith
+add-at : tie.Need-add-at Inv-loop μ-loop
+add-at c = omega arith
 
 loop-less : tie.Need-loop-less Inv-loop μ-loop
 loop-less c = omega arith
@@ -49,11 +49,11 @@ loop-less c = omega arith
 loop-again : tie.Need-loop-again Inv-loop μ-loop
 loop-again c =
     let a = c .before .before .before .before .before .before .args in
-    (omega arith, each-more _ _ (c .before .before .before .loop .e) (c .before .before .before .loop .inv .1) (sym (box-next (a .boxes .now) (c .before .before .before .loop .e)) ∙ (sym (c .before .good-box .ensures) ∙ not-false _ (c .if2 .left))))
+    (omega arith, each-more _ _ (c .before .before .before .loop .at) (c .before .before .before .loop .inv .1) (sym (box-next (a .boxes .now) (c .before .before .before .loop .at)) ∙ (sym (c .before .good-box .ensures) ∙ not-false _ (c .if2 .left))))
 
 returns-3 : tie.Need-returns-3 Inv-loop μ-loop
 returns-3 c =
-    let last : c .before .loop .e ≡ c .before .before .before .before .args .m = omega arith in
+    let last : c .before .loop .at ≡ c .before .before .before .before .args .m = omega arith in
     sym (rw last at (c .before .loop .inv .1))
 
 pub judge-boxes-spec : {M : Type 1} → statement M
@@ -70,7 +70,7 @@ judge-boxes-spec =
     add-t8
     cast-t9
     returns-2
-    add-e
+    add-at
     loop-less
     loop-again
     returns-3)

@@ -1,4 +1,4 @@
--- `judging::places::judge_places` meets its contract. The loop's invariant: the nodes up to i are good.
+-- `judging::places::judge_places` meets its contract. The loop's invariant: the nodes up to at are good.
 use Prim.Native.Nat.{_+_, _-_, _≤_}
 use mathlib.Core.Path.{_≡_, sym, _∙_}
 use native.Mathlib.Omega.{arith}
@@ -12,10 +12,10 @@ use Rattle.judging.proofs.places.judge_places.Statement.{statement}
 use Rattle.judging.proofs.places.judge_places.Tie as tie
 
 abbrev Inv-loop : tie.InvT-loop
-Inv-loop n x y i₀ i = (i ≤ n) × (coordinates i x y ≡ Fine)
+Inv-loop n x y at₀ at = (at ≤ n) × (coordinates at x y ≡ Fine)
 
 abbrev μ-loop : tie.MeasureT-loop
-μ-loop n x y i₀ i = n - i
+μ-loop n x y at₀ at = n - at
 
 returns : tie.Need-returns Inv-loop μ-loop
 returns c = sym (is-fine _ (sym (c .before .all-places-good .ensures) ∙ c .if1 .taken))
@@ -35,10 +35,10 @@ cast-t9 c = omega arith
 returns-2 : tie.Need-returns-2 Inv-loop μ-loop
 returns-2 c =
     let a = c .before .before .before .before .before .before .args in
-    sym (each-first _ _ (c .before .before .before .loop .i) (a .n) (c .before .before .before .loop .inv .1) (sym (place-next (a .x .now) (a .y .now) (c .before .before .before .loop .i)) ∙ (sym (c .before .good-place .ensures) ∙ not-true _ (c .if2 .taken))) (omega arith))
+    sym (each-first _ _ (c .before .before .before .loop .at) (a .n) (c .before .before .before .loop .inv .1) (sym (place-next (a .x .now) (a .y .now) (c .before .before .before .loop .at)) ∙ (sym (c .before .good-place .ensures) ∙ not-true _ (c .if2 .taken))) (omega arith))
 
-add-i : tie.Need-add-i Inv-loop μ-loop
-add-i c = omega arith
+add-at : tie.Need-add-at Inv-loop μ-loop
+add-at c = omega arith
 
 loop-less : tie.Need-loop-less Inv-loop μ-loop
 loop-less c = omega arith
@@ -46,11 +46,11 @@ loop-less c = omega arith
 loop-again : tie.Need-loop-again Inv-loop μ-loop
 loop-again c =
     let a = c .before .before .before .before .before .before .args in
-    (omega arith, each-more _ _ (c .before .before .before .loop .i) (c .before .before .before .loop .inv .1) (sym (place-next (a .x .now) (a .y .now) (c .before .before .before .loop .i)) ∙ (sym (c .before .good-place .ensures) ∙ not-false _ (c .if2 .left))))
+    (omega arith, each-more _ _ (c .before .before .before .loop .at) (c .before .before .before .loop .inv .1) (sym (place-next (a .x .now) (a .y .now) (c .before .before .before .loop .at)) ∙ (sym (c .before .good-place .ensures) ∙ not-false _ (c .if2 .left))))
 
 returns-3 : tie.Need-returns-3 Inv-loop μ-loop
 returns-3 c =
-    let last : c .before .loop .i ≡ c .before .before .before .before .args .n = omega arith in
+    let last : c .before .loop .at ≡ c .before .before .before .before .args .n = omega arith in
     sym (rw last at (c .before .loop .inv .1))
 
 pub judge-places-spec : {M : Type 1} → statement M
@@ -66,7 +66,7 @@ judge-places-spec =
     add-t8
     cast-t9
     returns-2
-    add-i
+    add-at
     loop-less
     loop-again
     returns-3)
