@@ -1,0 +1,2 @@
+pub mod PaperLaws
+pub mod ToldLaws
