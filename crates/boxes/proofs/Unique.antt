@@ -3,7 +3,7 @@ use Prim.Native.Nat.{ℕ}
 use mathlib.Core.Path.{_≡_, refl, ap}
 use mathlib.Core.List.{List}
 use native.Mathlib.Omega.{arith}
-use Rattle.rules.specs.Paper.{judged-injective}
+use Rattle.rules.proofs.PaperLaws.{judged-injective}
 use Rattle.walks.specs.Rows.{Rows}
 use Rattle.files.specs.File.{Held}
 use Rattle.wording.specs.Refusals.{placeLine}

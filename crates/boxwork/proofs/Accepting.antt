@@ -3,7 +3,8 @@ use Prim.Native.Nat.{ℕ, _≤_}
 use mathlib.Core.Path.{_≡_, refl, sym, ap}
 use mathlib.Core.List.{List, []}
 use lib.IntN.{ℤ}
-use Rattle.rules.specs.Paper.{Reply, accepted, refusal, refusal-nonzero}
+use Rattle.rules.specs.Paper.{Reply, accepted, refusal}
+use Rattle.rules.proofs.PaperLaws.{refusal-nonzero}
 use Rattle.rules.specs.declared.Judged.the-variants.{Fine}
 use Rattle.rules.specs.declared.Refusal.{Refusal}
 use Rattle.rules.specs.declared.Refusal.the-variants.{BoxMisses}

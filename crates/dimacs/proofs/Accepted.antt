@@ -10,7 +10,8 @@ use lib.IntN.{ℤ, pos}
 use lib.ListN.{length, getD, drop}
 use lib.Signed.{leZ, leZ-yes, _≤ℤ_}
 use borrow.Author.Tests.{leb-true}
-use Rattle.rules.specs.Paper.{Reply, refusal, accepted, refusal-nonzero}
+use Rattle.rules.specs.Paper.{Reply, refusal, accepted}
+use Rattle.rules.proofs.PaperLaws.{refusal-nonzero}
 use Rattle.rules.specs.Limits.{mostNodes, longestText}
 use Rattle.rules.specs.Judging.{orElse, passes}
 use Rattle.rules.specs.declared.Refusal.{Refusal}

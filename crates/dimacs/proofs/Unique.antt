@@ -4,7 +4,8 @@ use mathlib.Core.List.{List, [], _∷_}
 use Prim.Native.Nat.{ℕ}
 use lib.IntN.{ℤ}
 use lib.ListN.{getD}
-use Rattle.rules.specs.Paper.{Reply, refusal-injective}
+use Rattle.rules.specs.Paper.{Reply}
+use Rattle.rules.proofs.PaperLaws.{refusal-injective}
 use Rattle.dimacs.specs.Reading.{grReply, coReply}
 use Rattle.dimacs.specs.Promise.{GrPromise, CoPromise}
 use Rattle.dimacs.specs.declared.GrReply.{GrReply}

@@ -1,4 +1,6 @@
 // A page: bytes that are lent for a text, which is put together on them.
+pub mod rows;
+
 ghost use mathlib.Core.Path.{_≡_};
 ghost use mathlib.Core.List.{_++_};
 ghost use Prim.Native.Nat.{_+_, _≤_};

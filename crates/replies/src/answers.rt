@@ -4,10 +4,10 @@ ghost use mathlib.Core.Path.{_≡_};
 ghost use lib.ListN.{length, take};
 ghost use Rattle.pages.specs.Page.{Puts};
 ghost use Rattle.replies.specs.Replies.{sizesLine, answerLine};
-use crate::showing::put_counts;
 use pages::PAGE;
 use pages::put;
 use pages::put_after;
+use pages::rows::put_counts;
 use search::Answer;
 use wording::put_refusal;
 

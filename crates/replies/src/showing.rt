@@ -1,9 +1,9 @@
 // Rows as replies.
 ghost use Prim.Native.Nat.{_≤_};
 ghost use mathlib.Core.Path.{_≡_};
-ghost use lib.ListN.{length, take};
+ghost use lib.ListN.{take};
 ghost use Rattle.pages.specs.Page.{Puts};
-ghost use Rattle.pages.specs.Spaced.{countsText, numbersText, spaced};
+ghost use Rattle.pages.specs.Spaced.{spaced};
 ghost use Rattle.commands.specs.Rows.{stretchOf, kindOf, nameOf};
 ghost use Rattle.lending.specs.Stores.{stores, Full, lentAt, rowOn};
 ghost use Rattle.replies.specs.Showing.{howMany, textOf, showLine};
@@ -19,58 +19,9 @@ use lending::rows::lent_at;
 use lending::rows::numbers_of;
 use pages::PAGE;
 use pages::put;
-use pages::put_after;
-use pages::put_number;
-
-// The numbers of a row, each after a space.
-pub fn put_counts(page: &mut [u8; PAGE], start: usize, row: &[u32]) -> usize
-    requires { ⌜ (start ≤ 1000) × (length (now row) ≤ 16384) ⌝ }
-    ensures { λ r. ⌜ Puts (countsText (now (row .entry))) start (now (page .entry)) r (now (page .exit)) ⌝ }
-    ensures { λ r. ⌜ r ≤ 362000 ⌝ }
-{
-    let mut at = start;
-    let mut i = 0;
-    while i < row.len() {
-        at = put_after(page, at, b" ", row[i]);
-        i += 1;
-    }
-    at
-}
-
-pub fn put_numbers(page: &mut [u8; PAGE], start: usize, row: &[i32]) -> usize
-    requires { ⌜ (start ≤ 1000) × (length (now row) ≤ 16384) ⌝ }
-    ensures { λ r. ⌜ Puts (numbersText (now (row .entry))) start (now (page .entry)) r (now (page .exit)) ⌝ }
-    ensures { λ r. ⌜ r ≤ 362000 ⌝ }
-{
-    let mut at = start;
-    let mut i = 0;
-    while i < row.len() {
-        let a = put(page, at, b" ");
-        at = put_number(page, a, row[i]);
-        i += 1;
-    }
-    at
-}
-
-fn wide(b: u8) -> u32
-    ensures { λ r. ⌜ r ≡ b ⌝ }
-{
-    b as u32
-}
-
-pub fn put_bytes(page: &mut [u8; PAGE], start: usize, row: &[u8]) -> usize
-    requires { ⌜ (start ≤ 1000) × (length (now row) ≤ 16384) ⌝ }
-    ensures { λ r. ⌜ Puts (countsText (now (row .entry))) start (now (page .entry)) r (now (page .exit)) ⌝ }
-    ensures { λ r. ⌜ r ≤ 362000 ⌝ }
-{
-    let mut at = start;
-    let mut i = 0;
-    while i < row.len() {
-        at = put_after(page, at, b" ", wide(row[i]));
-        i += 1;
-    }
-    at
-}
+use pages::rows::put_bytes;
+use pages::rows::put_counts;
+use pages::rows::put_numbers;
 
 // How many places of a row are to be shown, where so many are lent.
 fn how_many(shown: Shown, lent: usize) -> usize

@@ -1,7 +1,8 @@
 -- What the paper says of a search's answer. Assumes nothing.
 use mathlib.Core.Path.{_≡_, sym, ap}
 use mathlib.Core.List.{[], _∷_}
-use Rattle.rules.specs.Paper.{Reply, accepted, refusal, refusal-injective, refusal-nonzero}
+use Rattle.rules.specs.Paper.{Reply, accepted, refusal}
+use Rattle.rules.proofs.PaperLaws.{refusal-injective, refusal-nonzero}
 use Rattle.search.specs.declared.Answer.{Answer}
 use Rattle.search.specs.declared.Answer.the-variants.{Found, Refused}
 

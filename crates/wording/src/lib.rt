@@ -7,6 +7,7 @@ use pages::put;
 use pages::put_after;
 use pages::put_between;
 use pages::put_count;
+use pages::rows::put_counts;
 use rules::Refusal;
 
 // `refused`, the paper's number, and the place or 0: a line of `boxes`.
@@ -26,24 +27,9 @@ fn put_values(page: &mut [u8; PAGE], at: usize, why: Refusal) -> usize
     ensures { λ r. ⌜ Puts (valuesText why) at (now (page .entry)) r (now (page .exit)) ⌝ }
     ensures { λ r. ⌜ r ≤ at + 260 ⌝ }
 {
-    match why {
-        Refusal::TextTooLong => {
-            return at;
-        }
-        Refusal::RowTooShort => {
-            return at;
-        }
-        Refusal::NotInNetwork => {
-            return at;
-        }
-        Refusal::BoxMisses { arc, node } => {
-            let a = put_after(page, at, b" ", arc);
-            return put_after(page, a, b" ", node);
-        }
-        _ => {
-            return put_after(page, at, b" ", why.place());
-        }
-    }
+    let told = why.told();
+    let values = told.values;
+    put_counts(page, at, &values[..told.count])
 }
 
 // The refusal in words.
