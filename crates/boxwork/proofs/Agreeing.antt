@@ -4,7 +4,8 @@ use mathlib.Core.Path.{_≡_, refl, ap}
 use mathlib.Core.Logic.{_↔_}
 use mathlib.Core.List.{List}
 use native.Mathlib.Omega.{arith}
-use Rattle.rules.specs.Paper.{Reply, refusal-nonzero}
+use Rattle.rules.specs.Paper.{Reply}
+use Rattle.rules.proofs.PaperLaws.{refusal-nonzero}
 use Rattle.rules.specs.declared.Judged.{Judged}
 use Rattle.rules.specs.declared.Refusal.the-variants.{NoWalk}
 use Rattle.walks.specs.Walk.{Net}
