@@ -48,7 +48,8 @@ loop-again : tie.Need-loop-again Inv-loop μ-loop
 loop-again c =
     let a = c .before .before .before .before .before .before .before .before .before .args in
     let R = rows (a .tails .now) (a .heads .now) (a .weights .now) in
-    (omega arith, each-joined _ _ (c .before .before .before .before .before .loop .i) (c .before .before .before .before .before .loop .inv .1) (c .good-arc .ensures ∙ arc-next (a .n) R (c .before .before .before .before .before .loop .i)))
+    let l = c .before .before .before .before .before .loop in
+    (omega arith, each-joined _ _ (l .i) (l .inv .1) (c .good-arc .ensures ∙ arc-next (a .n) R (l .i)))
 
 returns : tie.Need-returns Inv-loop μ-loop
 returns c =

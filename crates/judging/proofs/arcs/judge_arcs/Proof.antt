@@ -52,7 +52,9 @@ returns-2 : tie.Need-returns-2 Inv-loop μ-loop
 returns-2 c =
     let a = c .before .before .before .before .before .before .before .before .before .before .before .before .args in
     let R = rows (a .tails .now) (a .heads .now) (a .weights .now) in
-    sym (each-first _ _ (c .before .before .before .before .before .before .loop .at) (a .m) (c .before .before .before .before .before .before .loop .inv .1) (sym (arc-next (a .n) R (c .before .before .before .before .before .before .loop .at)) ∙ (sym (c .before .good-arc .ensures) ∙ not-true _ (c .if2 .taken))) (omega arith))
+    let l = c .before .before .before .before .before .before .loop in
+    let bad = sym (c .before .good-arc .ensures) ∙ not-true _ (c .if2 .taken) in
+    sym (each-first _ _ (l .at) (a .m) (l .inv .1) (sym (arc-next (a .n) R (l .at)) ∙ bad) (omega arith))
 
 add-at : tie.Need-add-at Inv-loop μ-loop
 add-at c = omega arith
@@ -64,12 +66,15 @@ loop-again : tie.Need-loop-again Inv-loop μ-loop
 loop-again c =
     let a = c .before .before .before .before .before .before .before .before .before .before .before .before .args in
     let R = rows (a .tails .now) (a .heads .now) (a .weights .now) in
-    (omega arith, each-more _ _ (c .before .before .before .before .before .before .loop .at) (c .before .before .before .before .before .before .loop .inv .1) (sym (arc-next (a .n) R (c .before .before .before .before .before .before .loop .at)) ∙ (sym (c .before .good-arc .ensures) ∙ not-false _ (c .if2 .left))))
+    let l = c .before .before .before .before .before .before .loop in
+    let good = sym (c .before .good-arc .ensures) ∙ not-false _ (c .if2 .left) in
+    (omega arith, each-more _ _ (l .at) (l .inv .1) (sym (arc-next (a .n) R (l .at)) ∙ good))
 
 returns-3 : tie.Need-returns-3 Inv-loop μ-loop
 returns-3 c =
-    let last : c .before .loop .at ≡ c .before .before .before .before .before .before .before .args .m = omega arith in
-    sym (rw last at (c .before .loop .inv .1))
+    let l = c .before .loop in
+    let last : l .at ≡ c .before .before .before .before .before .before .before .args .m = omega arith in
+    sym (rw last at (l .inv .1))
 
 pub judge-arcs-spec : {M : Type 1} → statement M
 judge-arcs-spec =

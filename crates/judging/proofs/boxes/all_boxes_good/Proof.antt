@@ -32,7 +32,8 @@ loop-less c = omega arith
 
 loop-again : tie.Need-loop-again Inv-loop μ-loop
 loop-again c =
-    (omega arith, sides-joined (c .before .before .before .args .boxes .now) (c .before .before .loop .k) (c .before .before .loop .inv .1) (c .good-sides .ensures))
+    let l = c .before .before .loop in
+    (omega arith, sides-joined (c .before .before .before .args .boxes .now) (l .k) (l .inv .1) (c .good-sides .ensures))
 
 returns : tie.Need-returns Inv-loop μ-loop
 returns c =

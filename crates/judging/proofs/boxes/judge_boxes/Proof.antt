@@ -38,7 +38,9 @@ cast-t9 c = omega arith
 returns-2 : tie.Need-returns-2 Inv-loop μ-loop
 returns-2 c =
     let a = c .before .before .before .before .before .before .args in
-    sym (each-first _ _ (c .before .before .before .loop .at) (a .m) (c .before .before .before .loop .inv .1) (sym (box-next (a .boxes .now) (c .before .before .before .loop .at)) ∙ (sym (c .before .good-box .ensures) ∙ not-true _ (c .if2 .taken))) (omega arith))
+    let l = c .before .before .before .loop in
+    let bad = sym (c .before .good-box .ensures) ∙ not-true _ (c .if2 .taken) in
+    sym (each-first _ _ (l .at) (a .m) (l .inv .1) (sym (box-next (a .boxes .now) (l .at)) ∙ bad) (omega arith))
 
 add-at : tie.Need-add-at Inv-loop μ-loop
 add-at c = omega arith
@@ -49,7 +51,9 @@ loop-less c = omega arith
 loop-again : tie.Need-loop-again Inv-loop μ-loop
 loop-again c =
     let a = c .before .before .before .before .before .before .args in
-    (omega arith, each-more _ _ (c .before .before .before .loop .at) (c .before .before .before .loop .inv .1) (sym (box-next (a .boxes .now) (c .before .before .before .loop .at)) ∙ (sym (c .before .good-box .ensures) ∙ not-false _ (c .if2 .left))))
+    let l = c .before .before .before .loop in
+    let good = sym (c .before .good-box .ensures) ∙ not-false _ (c .if2 .left) in
+    (omega arith, each-more _ _ (l .at) (l .inv .1) (sym (box-next (a .boxes .now) (l .at)) ∙ good))
 
 returns-3 : tie.Need-returns-3 Inv-loop μ-loop
 returns-3 c =

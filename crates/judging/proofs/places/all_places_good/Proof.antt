@@ -30,7 +30,8 @@ loop-less c = omega arith
 loop-again : tie.Need-loop-again Inv-loop μ-loop
 loop-again c =
     let a = c .before .before .before .args in
-    (omega arith, each-joined _ _ (c .before .before .loop .i) (c .before .before .loop .inv .1) (c .good-place .ensures ∙ place-next (a .x .now) (a .y .now) (c .before .before .loop .i)))
+    let l = c .before .before .loop in
+    (omega arith, each-joined _ _ (l .i) (l .inv .1) (c .good-place .ensures ∙ place-next (a .x .now) (a .y .now) (l .i)))
 
 returns : tie.Need-returns Inv-loop μ-loop
 returns c =

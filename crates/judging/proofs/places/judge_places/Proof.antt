@@ -35,7 +35,9 @@ cast-t9 c = omega arith
 returns-2 : tie.Need-returns-2 Inv-loop μ-loop
 returns-2 c =
     let a = c .before .before .before .before .before .before .args in
-    sym (each-first _ _ (c .before .before .before .loop .at) (a .n) (c .before .before .before .loop .inv .1) (sym (place-next (a .x .now) (a .y .now) (c .before .before .before .loop .at)) ∙ (sym (c .before .good-place .ensures) ∙ not-true _ (c .if2 .taken))) (omega arith))
+    let l = c .before .before .before .loop in
+    let bad = sym (c .before .good-place .ensures) ∙ not-true _ (c .if2 .taken) in
+    sym (each-first _ _ (l .at) (a .n) (l .inv .1) (sym (place-next (a .x .now) (a .y .now) (l .at)) ∙ bad) (omega arith))
 
 add-at : tie.Need-add-at Inv-loop μ-loop
 add-at c = omega arith
@@ -46,7 +48,9 @@ loop-less c = omega arith
 loop-again : tie.Need-loop-again Inv-loop μ-loop
 loop-again c =
     let a = c .before .before .before .before .before .before .args in
-    (omega arith, each-more _ _ (c .before .before .before .loop .at) (c .before .before .before .loop .inv .1) (sym (place-next (a .x .now) (a .y .now) (c .before .before .before .loop .at)) ∙ (sym (c .before .good-place .ensures) ∙ not-false _ (c .if2 .left))))
+    let l = c .before .before .before .loop in
+    let good = sym (c .before .good-place .ensures) ∙ not-false _ (c .if2 .left) in
+    (omega arith, each-more _ _ (l .at) (l .inv .1) (sym (place-next (a .x .now) (a .y .now) (l .at)) ∙ good))
 
 returns-3 : tie.Need-returns-3 Inv-loop μ-loop
 returns-3 c =
