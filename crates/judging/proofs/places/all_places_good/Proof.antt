@@ -6,6 +6,7 @@ use Rattle.rules.specs.Judging.{isFine}
 use Rattle.rules.proofs.JudgingLaws.{each-none, each-joined}
 use Rattle.judging.specs.Order.{coordinates}
 use Rattle.judging.proofs.NextLaws.{place-next}
+use borrow.Author.Needs.{needs}
 use Rattle.judging.proofs.places.all_places_good.Statement.{statement}
 use Rattle.judging.proofs.places.all_places_good.Tie as tie
 
@@ -17,15 +18,6 @@ abbrev μ-loop : tie.MeasureT-loop
 
 loop-holds : tie.Need-loop-holds Inv-loop μ-loop
 loop-holds c = (omega arith, sym (ap isFine (each-none _ _)))
-
-good-place-requires : tie.Need-good-place-requires Inv-loop μ-loop
-good-place-requires c κs = omega arith
-
-add-i : tie.Need-add-i Inv-loop μ-loop
-add-i c = omega arith
-
-loop-less : tie.Need-loop-less Inv-loop μ-loop
-loop-less c = omega arith
 
 loop-again : tie.Need-loop-again Inv-loop μ-loop
 loop-again c =
@@ -39,4 +31,12 @@ returns c =
     rw last at (c .before .loop .inv .1)
 
 pub all-places-good-spec : {M : Type 1} → statement M
-all-places-good-spec = tie.close (tie.spec Inv-loop μ-loop loop-holds good-place-requires add-i loop-less loop-again returns)
+all-places-good-spec =
+    tie.close
+    (tie.spec
+    Inv-loop
+    μ-loop
+    loop-holds
+    (λ c κs. search needs) (λ c. search needs) (λ c. search needs)
+    loop-again
+    returns)
