@@ -1,4 +1,4 @@
--- `judging::judge_placed` meets its contract: a refusal is handed on as it came.
+-- `judging::network::judge_placed` meets its contract: a refusal is handed on as it came.
 use mathlib.Core.Path.{_≡_, sym, _∙_}
 use mathlib.Core.Bool.{_&&_}
 use Rattle.rules.proofs.AndLaws.{and-true}
@@ -7,8 +7,8 @@ use Rattle.walks.specs.Rows.{rows}
 use Rattle.judging.specs.Order.{boxRowsLong, networkJudged, placedJudged}
 use Rattle.judging.proofs.StageLaws.{network-fine, long-boxes}
 use borrow.Author.Needs.{needs}
-use Rattle.judging.proofs.judge_placed.Statement.{statement}
-use Rattle.judging.proofs.judge_placed.Tie as tie
+use Rattle.judging.proofs.network.judge_placed.Statement.{statement}
+use Rattle.judging.proofs.network.judge_placed.Tie as tie
 
 -- the network is judged with the test of the other rows
 told : (c : tie.After-judge-network) →

@@ -1,11 +1,11 @@
--- `judging::judge_shaped` meets its contract: a refusal is handed on as it came.
+-- `judging::network::judge_shaped` meets its contract: a refusal is handed on as it came.
 use mathlib.Core.Path.{sym, _∙_}
 use Rattle.rules.proofs.JudgingLaws.{refusal-decides, rest-decides, nothing-follows}
 use Rattle.judging.specs.Order.{shapedJudged}
 use Rattle.judging.proofs.StageLaws.{placed-fine}
 use borrow.Author.Needs.{needs}
-use Rattle.judging.proofs.judge_shaped.Statement.{statement}
-use Rattle.judging.proofs.judge_shaped.Tie as tie
+use Rattle.judging.proofs.network.judge_shaped.Statement.{statement}
+use Rattle.judging.proofs.network.judge_shaped.Tie as tie
 
 returns : tie.Need-returns
 unfolding shapedJudged

@@ -1,4 +1,4 @@
--- `judging::judge_network` meets its contract: each refusal is handed on as it came.
+-- `judging::network::judge_network` meets its contract: each refusal is handed on as it came.
 use mathlib.Core.Path.{_≡_, sym, _∙_}
 use mathlib.Core.Bool.{Bool, _&&_}
 use Rattle.rules.proofs.AndLaws.{and-true}
@@ -8,8 +8,8 @@ use Rattle.walks.specs.Rows.{rows}
 use Rattle.judging.specs.Order.{arcRowsLong, lengths, networkJudged}
 use Rattle.judging.proofs.StageLaws.{long-arcs}
 use borrow.Author.Needs.{needs}
-use Rattle.judging.proofs.judge_network.Statement.{statement}
-use Rattle.judging.proofs.judge_network.Tie as tie
+use Rattle.judging.proofs.network.judge_network.Statement.{statement}
+use Rattle.judging.proofs.network.judge_network.Tie as tie
 
 -- the lengths are judged by the test that the code asked
 asked : {j : Judged} {long arcs : Bool} (others : Bool) → j ≡ lengths (long && others) → long ≡ arcs → j ≡ lengths (arcs && others)
