@@ -16,7 +16,8 @@ use Rattle.drawing.specs.Drawn.{Drawn, boxRow}
 use Rattle.boxwork.specs.Tight.{Tight, Updated, HoldsNode}
 use Rattle.judging.specs.Order.{buildJudged, checkJudged, updateJudged}
 use Rattle.boxwork.specs.Says.{BuildSays, CheckSays, UpdateSays, reweighted}
-use Rattle.judging.proofs.FineLaws.{BoxesLent as Lent, Shaped, shaped-judged, lent-after}
+use Rattle.judging.proofs.StageLaws.{BoxesLent as Lent, Shaped, lent-after}
+use Rattle.judging.proofs.FineLaws.{shaped-judged}
 use Rattle.boxwork.proofs.TightLaws.{inS-range, tight-holds, tight-shaped, updated-holds, updated-shaped}
 
 -- ---- A refusal is not an accepting reply

@@ -13,7 +13,8 @@ use Rattle.rules.specs.declared.Judged.the-variants.{Fine}
 use Rattle.walks.specs.Rows.{Rows, rows, Sound, at, network}
 use Rattle.walks.specs.Through.{InS, Consistent}
 use Rattle.walks.specs.Checking.{Misses, FirstMissed}
-use Rattle.settling.proofs.Choice.{either, and-true, and-yes}
+use Rattle.settling.proofs.Choice.{either}
+use Rattle.rules.proofs.AndLaws.{and-true, and-yes}
 use Rattle.settling.proofs.LengthsAndS.{test-inS, inS-test}
 use Rattle.geometry.specs.Box.{Box, Holds, Upright, Smallest, holdsB}
 use Rattle.geometry.specs.Hull.{grown}

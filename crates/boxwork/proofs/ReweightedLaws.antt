@@ -7,7 +7,7 @@ use lib.IntN.{ℤ}
 use lib.ListN.{length-set}
 use lib.Seq.{getD-set-same, getD-set-other}
 use Rattle.walks.specs.Rows.{Rows, Sound, at}
-use Rattle.judging.proofs.FineLaws.{BoxesLent}
+use Rattle.judging.proofs.StageLaws.{BoxesLent}
 use Rattle.boxwork.specs.Says.{reweighted}
 
 module _ {n m : ℕ} {R : Rows} (sound : Sound n m R) (arc weight : ℕ) (low : 1 ≤ arc) (high : arc ≤ m) (light : weight ≤ 1_000_000) where

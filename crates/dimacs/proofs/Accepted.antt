@@ -10,6 +10,8 @@ use lib.IntN.{ℤ, pos}
 use lib.ListN.{length, getD, drop}
 use lib.Signed.{leZ, leZ-yes, _≤ℤ_}
 use borrow.Author.Tests.{leb-true}
+use Rattle.rules.proofs.AndLaws.{and-true}
+use Rattle.rules.proofs.JudgingLaws.{both-fine, passed}
 use Rattle.rules.specs.Paper.{Reply, refusal, accepted}
 use Rattle.rules.proofs.PaperLaws.{refusal-nonzero}
 use Rattle.rules.specs.Limits.{mostNodes, longestText}
@@ -32,7 +34,7 @@ use Rattle.dimacs.specs.declared.CoReply.the-variants.{Read as CoRead}
 use Rattle.dimacs.specs.declared.format.Format.the-variants.{Graph, Coordinates}
 use Rattle.dimacs.specs.declared.rows.Column.the-variants.{First, Second, Third}
 use Rattle.dimacs.specs.declared.rows.Axis.the-variants.{X, Y}
-use Rattle.dimacs.proofs.Fairness.{both, or-fine, passes-fine, Inside, inside}
+use Rattle.dimacs.proofs.Fairness.{Inside, inside}
 use Rattle.dimacs.proofs.Sound.{sound, onward}
 
 -- no refusal is an acceptance
@@ -123,10 +125,10 @@ co-read text n a b p lines e =
     let wide = leb mostNodes (length a) && leb mostNodes (length b) in
     let given = passes (leb 1 n && leb n mostNodes) (BeyondLimits 0) in
     let d = onward _ _ _ _ e in
-    let f = or-fine (passes (leb (length text) longestText) TextTooLong) (orElse (passes wide RowTooShort) (orElse given Fine)) (d .0) in
-    let g = or-fine (passes wide RowTooShort) (orElse given Fine) (f .1) in
-    let h = or-fine given Fine (g .1) in
-    let i = both (leb 1 n) (leb n mostNodes) (passes-fine _ _ (h .0)) in
+    let f = both-fine (passes (leb (length text) longestText) TextTooLong) (orElse (passes wide RowTooShort) (orElse given Fine)) (d .0) in
+    let g = both-fine (passes wide RowTooShort) (orElse given Fine) (f .1) in
+    let h = both-fine given Fine (g .1) in
+    let i = and-true (leb 1 n) (leb n mostNodes) (passed _ _ (h .0)) in
     (leb-true _ _ (i .1), d .1)
 
 co-limits : (text : List ℕ) (n : ℕ) (a b : List ℤ) → coSays (readCo text n a b) ≡ accepted []

@@ -8,6 +8,8 @@ use lib.Dec.{leb, ltb}
 use lib.IntN.{ℤ, pos, negsuc}
 use lib.Signed.{leZ}
 use borrow.Author.Tests.{leb-true, leb-false, ltb-true, le-leb, lt-leb, not-true}
+use Rattle.rules.proofs.AndLaws.{and-true}
+use Rattle.rules.proofs.JudgingLaws.{both-fine, passed}
 use Rattle.rules.specs.Judging.{orElse, passes}
 use Rattle.rules.specs.declared.Refusal.{Refusal}
 use Rattle.rules.specs.declared.Refusal.the-variants.{OutOfOrder, BeyondLimits, CountsDisagree, NodeAgain}
@@ -31,10 +33,6 @@ use Rattle.dimacs.specs.declared.format.Format.{Format}
 use Rattle.dimacs.specs.declared.format.Format.the-variants.{Graph, Coordinates}
 use Rattle.dimacs.specs.declared.judge.Head.{Head}
 use Rattle.dimacs.proofs.Counting.{clash}
-
-pub both : (a b : Bool) → a && b ≡ true → (a ≡ true) × (b ≡ true)
-both true b e = (refl, e)
-both false b e = absurd (clash e)
 
 -- ---- every format's rules
 
@@ -90,10 +88,10 @@ none-above a b e =
     let p = leb (a .first) (b .first) in
     let q = leb (a .second) (b .second) in
     let r = leb (a .third) (b .third) in
-    let e4 = both (p && q && r && leZ (a .x) (b .x)) (leZ (a .y) (b .y)) e in
-    let e3 = both (p && q && r) (leZ (a .x) (b .x)) (e4 .0) in
-    let e2 = both (p && q) r (e3 .0) in
-    let e1 = both p q (e2 .0) in
+    let e4 = and-true (p && q && r && leZ (a .x) (b .x)) (leZ (a .y) (b .y)) e in
+    let e3 = and-true (p && q && r) (leZ (a .x) (b .x)) (e4 .0) in
+    let e2 = and-true (p && q) r (e3 .0) in
+    let e1 = and-true p q (e2 .0) in
     record { first = leb-true _ _ (e1 .0); second = leb-true _ _ (e1 .1); third = leb-true _ _ (e2 .1); x = e3 .1; y = e4 .1 }
 
 pub column-below : (a b : Numbers) → NoneAbove a b → (which : Column) → columnOf which a ≤ columnOf which b
@@ -109,7 +107,7 @@ pub record Inside (l : Limits) (ns : Numbers) : Type 0 where
 pub inside : (l : Limits) (ns : Numbers) → within l ns ≡ true → Inside l ns
 unfolding within
 inside l ns e =
-    let p = both (noneAbove (l .least) ns) (noneAbove ns (l .most)) e in
+    let p = and-true (noneAbove (l .least) ns) (noneAbove ns (l .most)) e in
     record { low = none-above (l .least) ns (p .0); high = none-above ns (l .most) (p .1) }
 
 pub once-in : (R : Rules) (ns : Numbers) → Fair R → within (R .entries) ns ≡ true → R .once ≡ true → (1 ≤ ns .first) × (ns .first ≤ 2048)
@@ -185,14 +183,6 @@ module _ (l : Limits) (m : ModestLimits l) where
 
 -- ---- what a judgement that is fine says
 
-pub or-fine : (j k : Judged) → orElse j k ≡ Fine → (j ≡ Fine) × (k ≡ Fine)
-or-fine Fine k e = (refl, e)
-or-fine (Refused r) k e = absurd (let z : _≡_ {A = ℕ} 0 1 = cc in omega arith)
-
-pub passes-fine : (b : Bool) (r : Refusal) → passes b r ≡ Fine → b ≡ true
-passes-fine true r e = refl
-passes-fine false r e = absurd (let z : _≡_ {A = ℕ} 0 1 = cc in omega arith)
-
 pub record ProblemFine (R : Rules) (h : Head) (ns : Numbers) : Type 0 where
   pub inside : within (R .problem) ns ≡ true
   pub agrees : leb (R .fewest) (announced R ns) && leb (announced R ns) (R .most) ≡ true
@@ -202,10 +192,10 @@ pub problem-fine : (R : Rules) (h : Head) (k : ℕ) (ns : Numbers) → problemJu
 unfolding problemJudged
 problem-fine R h k ns e =
     let agreed = leb (R .fewest) (announced R ns) && leb (announced R ns) (R .most) in
-    let d = or-fine (passes (not (h .seen)) (OutOfOrder k)) (orElse (passes (within (R .problem) ns) (BeyondLimits k)) (orElse (passes agreed (CountsDisagree k)) Fine)) e in
-    let f = or-fine (passes (within (R .problem) ns) (BeyondLimits k)) (orElse (passes agreed (CountsDisagree k)) Fine) (d .1) in
-    let g = or-fine (passes agreed (CountsDisagree k)) Fine (f .1) in
-    record { inside = passes-fine _ _ (f .0); agrees = passes-fine _ _ (g .0); unseen = passes-fine _ _ (d .0) }
+    let d = both-fine (passes (not (h .seen)) (OutOfOrder k)) (orElse (passes (within (R .problem) ns) (BeyondLimits k)) (orElse (passes agreed (CountsDisagree k)) Fine)) e in
+    let f = both-fine (passes (within (R .problem) ns) (BeyondLimits k)) (orElse (passes agreed (CountsDisagree k)) Fine) (d .1) in
+    let g = both-fine (passes agreed (CountsDisagree k)) Fine (f .1) in
+    record { inside = passed _ _ (f .0); agrees = passed _ _ (g .0); unseen = passed _ _ (d .0) }
 
 pub record DataFine (R : Rules) (h : Head) (taken : List Bool) (ns : Numbers) : Type 0 where
   pub seen : h .seen ≡ true
@@ -218,15 +208,15 @@ unfolding dataJudged
 data-fine R h taken k ns e =
     let last = orElse (passes (ltb (h .count) (announced R (h .problem))) (CountsDisagree k)) Fine in
     let third = orElse (passes (not (again R taken (ns .first))) (NodeAgain k)) last in
-    let d = or-fine (passes (h .seen) (OutOfOrder k)) (orElse (passes (within (R .entries) ns) (BeyondLimits k)) third) e in
-    let f = or-fine (passes (within (R .entries) ns) (BeyondLimits k)) third (d .1) in
-    let g = or-fine (passes (not (again R taken (ns .first))) (NodeAgain k)) last (f .1) in
-    let i = or-fine (passes (ltb (h .count) (announced R (h .problem))) (CountsDisagree k)) Fine (g .1) in
+    let d = both-fine (passes (h .seen) (OutOfOrder k)) (orElse (passes (within (R .entries) ns) (BeyondLimits k)) third) e in
+    let f = both-fine (passes (within (R .entries) ns) (BeyondLimits k)) third (d .1) in
+    let g = both-fine (passes (not (again R taken (ns .first))) (NodeAgain k)) last (f .1) in
+    let i = both-fine (passes (ltb (h .count) (announced R (h .problem))) (CountsDisagree k)) Fine (g .1) in
     record {
-      seen = passes-fine _ _ (d .0);
-      inside = passes-fine _ _ (f .0);
-      first-time = not-true _ (passes-fine _ _ (g .0));
-      room = ltb-true _ _ (passes-fine _ _ (i .0));
+      seen = passed _ _ (d .0);
+      inside = passed _ _ (f .0);
+      first-time = not-true _ (passed _ _ (g .0));
+      room = ltb-true _ _ (passed _ _ (i .0));
     }
 
 -- numbers beyond limits are judged alike

@@ -7,6 +7,7 @@ use lib.Dec.{leb}
 use lib.IntN.{ℤ}
 use lib.ListN.{length, drop}
 use borrow.Author.Tests.{leb-true, le-leb, lt-leb}
+use Rattle.rules.proofs.AndLaws.{and-true}
 use Rattle.rules.specs.declared.Refusal.{Refusal}
 use Rattle.rules.specs.declared.Refusal.the-variants.{TextTooLong, RowTooShort, BeyondLimits}
 use Rattle.rules.specs.declared.Judged.{Judged}
@@ -22,7 +23,6 @@ use Rattle.dimacs.specs.declared.rows.Column.the-variants.{First, Second
 use Rattle.dimacs.specs.declared.rows.Axis.the-variants.{X, Y}
 use Rattle.dimacs.specs.declared.GrReply.the-variants.{Read as GrRead, Refused as GrRefused}
 use Rattle.dimacs.specs.declared.CoReply.the-variants.{Read as CoRead, Refused as CoRefused}
-use Rattle.dimacs.proofs.Fairness.{both}
 
 -- the outcome of a text that was judged
 pub fine-outcome : (o p : Outcome) (j : Judged) → onJudged j p ≡ o → j ≡ Fine → o ≡ p
@@ -97,9 +97,9 @@ module _ (text : List ℕ) (n : ℕ) (x y : List ℤ) where
 pub gr-room : (tails heads weights : List ℕ) → leb 2048 (length tails) && leb 2048 (length heads) && leb 2048 (length weights) ≡ true
     → (2048 ≤ length tails) × (2048 ≤ length heads) × (2048 ≤ length weights)
 gr-room tails heads weights e =
-    let d = both (leb 2048 (length tails) && leb 2048 (length heads)) (leb 2048 (length weights)) e in
-    let f = both (leb 2048 (length tails)) (leb 2048 (length heads)) (d .0) in
+    let d = and-true (leb 2048 (length tails) && leb 2048 (length heads)) (leb 2048 (length weights)) e in
+    let f = and-true (leb 2048 (length tails)) (leb 2048 (length heads)) (d .0) in
     (leb-true _ _ (f .0), leb-true _ _ (f .1), leb-true _ _ (d .1))
 
 pub two-tests : (a b c d : ℕ) → leb a b && leb c d ≡ true → (a ≤ b) × (c ≤ d)
-two-tests a b c d e = let f = both (leb a b) (leb c d) e in (leb-true _ _ (f .0), leb-true _ _ (f .1))
+two-tests a b c d e = let f = and-true (leb a b) (leb c d) e in (leb-true _ _ (f .0), leb-true _ _ (f .1))

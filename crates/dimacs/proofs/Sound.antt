@@ -10,6 +10,8 @@ use lib.Dec.{eqb, leb}
 use lib.ListN.{length, getD, take, set, length-set, replicate, length-replicate}
 use lib.Seq.{getD-set-same, getD-set-other, getD-take, length-take-le}
 use borrow.Author.Tests.{leb-true, eqb-true, not-true}
+use Rattle.rules.proofs.AndLaws.{and-true}
+use Rattle.rules.proofs.JudgingLaws.{passed}
 use Rattle.rules.specs.declared.Judged.{Judged}
 use Rattle.rules.specs.declared.Judged.the-variants.{Fine, Refused}
 use Rattle.scan.specs.Fields.{none}
@@ -30,7 +32,7 @@ use Rattle.dimacs.specs.declared.format.Rules.{Rules}
 use Rattle.dimacs.specs.declared.format.Format.{Format}
 use Rattle.dimacs.specs.declared.format.Format.the-variants.{Graph, Coordinates}
 use Rattle.dimacs.proofs.Counting.{trues, At, clash, trues-set, full, none-taken, trues-none}
-use Rattle.dimacs.proofs.Fairness.{both, passes-fine, fair-of, column-below, inside, once-in, problem-fine, DataFine, data-fine}
+use Rattle.dimacs.proofs.Fairness.{fair-of, column-below, inside, once-in, problem-fine, DataFine, data-fine}
 
 -- a data line is within limits, and one of each node stands at its node's place
 pub record Entry (R : Rules) (i : ℕ) (ns : Numbers) : Type 0 where
@@ -107,7 +109,7 @@ module _ (F : Format) (ok : FormatFair F) (s : State) (g : Kept F s) (k : ℕ) w
       let f = problem-fine R (s .head) k ns e in
       let i = inside (R .problem) ns (f .inside) in
       let same = alike-rules F (s .head .problem) ns in
-      let agreed = both (leb (R .fewest) (announced R ns)) (leb (announced R ns) (R .most)) (f .agrees) in
+      let agreed = and-true (leb (R .fewest) (announced R ns)) (leb (announced R ns) (R .most)) (f .agrees) in
       let empty : trues (s .taken) ≡ 0 = g .counted ∙ g .unseen (not-true _ (f .unseen)) in
       record {
         taken-long = g .taken-long;
@@ -225,7 +227,7 @@ unfolding ended
 kept-end F ok s k g e =
     let R = rulesOf F (s .head .problem) in
     let m = announced R (s .head .problem) in
-    let d = both (s .head .seen) (eqb (s .head .count) m) (passes-fine _ _ e) in
+    let d = and-true (s .head .seen) (eqb (s .head .count) m) (passed _ _ e) in
     let all : s .head .count ≡ m = eqb-true _ _ (d .1) in
     let in-lines : m ≤ length (s .lines) = omega (arith, g .counts (R .count), g .lines-long) in
     record {

@@ -1,4 +1,4 @@
--- Laws of boxes in a row: what a stored box leaves at each place. Assumes nothing.
+-- Laws of boxes in a row: what a stored box leaves at each place.
 use Prim.Native.Nat.{ℕ, _+_, _-_, _*_, _≤_, _<_}
 use mathlib.Core.Path.{_≡_}
 use mathlib.Core.Logic.{_⊎_, inl, inr, ⊎-elim}

@@ -1,4 +1,4 @@
--- The tests of boxes and places, and what they say. Assumes nothing.
+-- The tests of boxes and places, and what they say.
 use mathlib.Core.Path.{_≡_, refl, sym, subst}
 use mathlib.Core.Bool.{Bool, true, false, _&&_}
 use lib.Dec.{T}

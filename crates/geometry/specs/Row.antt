@@ -1,5 +1,5 @@
 -- Coordinates and boxes in rows. Nodes and arcs are numbered from 1; boxes are one row of four numbers an arc, in
--- order: left, right, low, high. Assumes nothing.
+-- order: left, right, low, high.
 use Prim.Native.Nat.{ℕ, _+_, _-_, _*_}
 use mathlib.Core.List.{List}
 use lib.IntN.{ℤ, pos}

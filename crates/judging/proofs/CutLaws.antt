@@ -51,7 +51,9 @@ module _ (n m : ℕ) (R : Rows) where
   arc-rows-cut = rw (long-cut m (R .tails), long-cut m (R .heads), long-cut m (R .weights))
 
   arcs-cut : arcs n m (cut m R) ≡ arcs n m R
-  arcs-cut = each-same _ _ BadArc m (λ i low high. rw (at-cut m (R .tails) i low high, at-cut m (R .heads) i low high, at-cut m (R .weights) i low high))
+  arcs-cut =
+      each-same _ _ BadArc m (λ i low high.
+      rw (at-cut m (R .tails) i low high, at-cut m (R .heads) i low high, at-cut m (R .weights) i low high))
 
 module _ (n m : ℕ) (x y boxes : List ℤ) where
   box-rows-cut : boxRowsLong n m (take n x) (take n y) (take (4 * m) boxes) ≡ boxRowsLong n m x y boxes
@@ -70,32 +72,39 @@ module _ (n m : ℕ) (R : Rows) where
   unfolding networkJudged
   network-cut others = rw (arc-rows-cut n m R, arcs-cut n m R)
 
-  pub search-judged-cut : (s t : ℕ) (route : List ℕ) → searchJudged n m (cut m R) s t (length (take n route)) ≡ searchJudged n m R s t (length route)
+  pub search-judged-cut : (s t : ℕ) (route : List ℕ)
+      → searchJudged n m (cut m R) s t (length (take n route)) ≡ searchJudged n m R s t (length route)
   unfolding searchJudged
   search-judged-cut s t route = rw (long-cut n route, network-cut (leb n (length route)))
 
   module _ (x y boxes : List ℤ) where
-    placed-cut : (others : Bool) → placedJudged n m (cut m R) (take n x) (take n y) (take (4 * m) boxes) others ≡ placedJudged n m R x y boxes others
+    placed-cut : (others : Bool) → placedJudged n m (cut m R) (take n x) (take n y) (take (4 * m) boxes) others
+        ≡ placedJudged n m R x y boxes others
     unfolding placedJudged
     placed-cut others = rw (box-rows-cut n m x y boxes, network-cut, coordinates-cut n m x y boxes)
 
-    shaped-cut : (others : Bool) → shapedJudged n m (cut m R) (take n x) (take n y) (take (4 * m) boxes) others ≡ shapedJudged n m R x y boxes others
+    shaped-cut : (others : Bool) → shapedJudged n m (cut m R) (take n x) (take n y) (take (4 * m) boxes) others
+        ≡ shapedJudged n m R x y boxes others
     unfolding shapedJudged
     shaped-cut others = rw (placed-cut others, shapes-cut n m x y boxes)
 
     pub boxed-judged-cut : (s t : ℕ) (route : List ℕ)
-        → boxedJudged n m (cut m R) (take n x) (take n y) (take (4 * m) boxes) s t (length (take n route)) ≡ boxedJudged n m R x y boxes s t (length route)
+        → boxedJudged n m (cut m R) (take n x) (take n y) (take (4 * m) boxes) s t (length (take n route))
+        ≡ boxedJudged n m R x y boxes s t (length route)
     unfolding boxedJudged
     boxed-judged-cut s t route = rw (long-cut n route, shaped-cut (leb n (length route)))
 
-    pub build-judged-cut : buildJudged n m (cut m R) (take n x) (take n y) (take (4 * m) boxes) ≡ buildJudged n m R x y boxes
+    pub build-judged-cut : buildJudged n m (cut m R) (take n x) (take n y) (take (4 * m) boxes)
+        ≡ buildJudged n m R x y boxes
     unfolding buildJudged
     build-judged-cut = placed-cut true
 
-    pub check-judged-cut : checkJudged n m (cut m R) (take n x) (take n y) (take (4 * m) boxes) ≡ checkJudged n m R x y boxes
+    pub check-judged-cut : checkJudged n m (cut m R) (take n x) (take n y) (take (4 * m) boxes)
+        ≡ checkJudged n m R x y boxes
     unfolding checkJudged
     check-judged-cut = shaped-cut true
 
-    pub update-judged-cut : (arc weight : ℕ) → updateJudged n m (cut m R) (take n x) (take n y) (take (4 * m) boxes) arc weight ≡ updateJudged n m R x y boxes arc weight
+    pub update-judged-cut : (arc weight : ℕ) → updateJudged n m (cut m R) (take n x) (take n y) (take (4 * m) boxes) arc weight
+        ≡ updateJudged n m R x y boxes arc weight
     unfolding updateJudged
     update-judged-cut arc weight = rw check-judged-cut

@@ -1,3 +1,4 @@
+pub mod StageLaws
 pub mod FineLaws
 pub mod CutLaws
 pub mod NextLaws

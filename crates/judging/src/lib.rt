@@ -1,88 +1,21 @@
-// Judging what a call is lent, in the one order of refusals: a stage of it stands in each module, the calls stand here.
+// Judging what a call is lent, in the one order of refusals: a stage of it stands in each module, what calls have in common in
+// `network`, the calls here.
 ghost use mathlib.Core.Path.{_≡_};
 ghost use Rattle.walks.specs.Rows.{rows};
-ghost use Rattle.judging.specs.Order.{networkJudged, placedJudged, shapedJudged, searchJudged, boxedJudged, buildJudged, checkJudged, updateJudged};
-use arcs::judge_arcs;
-use boxes::judge_boxes;
+ghost use Rattle.judging.specs.Order.{searchJudged, boxedJudged, buildJudged, checkJudged, updateJudged};
 use ends::judge_change;
 use ends::judge_ends;
-use places::judge_places;
+use network::judge_network;
+use network::judge_placed;
+use network::judge_shaped;
 use rules::Judged;
-use sizes::arc_rows_long;
-use sizes::box_rows_long;
-use sizes::judge_lengths;
-use sizes::judge_sizes;
 
 pub mod arcs;
 pub mod boxes;
 pub mod ends;
+pub mod network;
 pub mod places;
 pub mod sizes;
-
-// A network: 5, 2, 8. `others` tells whether the other rows that are lent are long enough.
-pub fn judge_network(
-    n: u32,
-    m: u32,
-    tails: &[u32],
-    heads: &[u32],
-    weights: &[u32],
-    others: bool,
-) -> Judged
-    ensures { λ r. ⌜ r ≡ networkJudged n m (rows (now (tails .entry)) (now (heads .entry)) (now (weights .entry))) others ⌝ }
-{
-    let a = judge_sizes(n, m);
-    let Judged::Fine = a else {
-        return a;
-    };
-    let b = judge_lengths(arc_rows_long(m, tails, heads, weights) & others);
-    let Judged::Fine = b else {
-        return b;
-    };
-    judge_arcs(n, m, tails, heads, weights)
-}
-
-// A network with coordinates and a row for boxes: 5, 2, 8, 9.
-fn judge_placed(
-    n: u32,
-    m: u32,
-    tails: &[u32],
-    heads: &[u32],
-    weights: &[u32],
-    x: &[i32],
-    y: &[i32],
-    boxes: &[i32],
-    others: bool,
-) -> Judged
-    ensures { λ r. ⌜ r ≡ placedJudged n m (rows (now (tails .entry)) (now (heads .entry)) (now (weights .entry))) (now (x .entry)) (now (y .entry)) (now (boxes .entry)) others ⌝ }
-{
-    let long = box_rows_long(n, m, x, y, boxes) & others;
-    let a = judge_network(n, m, tails, heads, weights, long);
-    let Judged::Fine = a else {
-        return a;
-    };
-    judge_places(n as usize, x, y)
-}
-
-// A network with coordinates and boxes: 5, 2, 8, 9, 10.
-fn judge_shaped(
-    n: u32,
-    m: u32,
-    tails: &[u32],
-    heads: &[u32],
-    weights: &[u32],
-    x: &[i32],
-    y: &[i32],
-    boxes: &[i32],
-    others: bool,
-) -> Judged
-    ensures { λ r. ⌜ r ≡ shapedJudged n m (rows (now (tails .entry)) (now (heads .entry)) (now (weights .entry))) (now (x .entry)) (now (y .entry)) (now (boxes .entry)) others ⌝ }
-{
-    let a = judge_placed(n, m, tails, heads, weights, x, y, boxes, others);
-    let Judged::Fine = a else {
-        return a;
-    };
-    judge_boxes(m as usize, boxes)
-}
 
 // A search from `s` to `t` with a route row of `places` places: 5, 2, 8, 11.
 pub fn judge_search(

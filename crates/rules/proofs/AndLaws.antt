@@ -11,6 +11,9 @@ and-true false b e = absurd (false≢true e)
 pub and-yes : {a b t : Bool} → a ≡ true → b ≡ t → a && b ≡ t
 and-yes p q = rw p q
 
+pub and-no : {a : Bool} (b : Bool) → a ≡ false → a && b ≡ false
+and-no b p = rw p
+
 -- two tests that pass together are the same
 pub same-test : (a b : Bool) → (a ≡ true → b ≡ true) → (b ≡ true → a ≡ true) → a ≡ b
 same-test true true f g = refl

@@ -1,4 +1,4 @@
--- What the search by labels gives is an answer. Assumes nothing.
+-- What the search by labels gives is an answer.
 use Prim.Native.Nat.{ℕ, _+_, _≤_}
 use native.Mathlib.Omega.{arith}
 use mathlib.Core.Path.{_≡_}

@@ -1,4 +1,4 @@
--- Two networks with the same arcs answer every search alike. Assumes nothing.
+-- Two networks with the same arcs answer every search alike.
 use Prim.Native.Nat.{ℕ, _+_}
 use mathlib.Core.Path.{_≡_, refl, sym, ap}
 use mathlib.Core.List.{List}

@@ -1,4 +1,4 @@
--- The network of the arcs that pass the code's test is the one that the statement names. Assumes nothing.
+-- The network of the arcs that pass the code's test is the one that the statement names.
 use Prim.Native.Nat.{ℕ}
 use mathlib.Core.Path.{refl}
 use mathlib.Core.Bool.{true}

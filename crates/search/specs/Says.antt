@@ -1,4 +1,4 @@
--- What a search says: the one relation between what is lent, the reply and the route row afterwards. Assumes nothing.
+-- What a search says: the one relation between what is lent, the reply and the route row afterwards.
 use Prim.Native.Nat.{ℕ}
 use mathlib.Core.Path.{_≡_}
 use mathlib.Core.List.{List, [], _∷_, _++_}

@@ -1,5 +1,5 @@
 -- Surplus is neither read nor written: a search is the search over the rows cut to the places that it needs, and the
--- places of the route row beyond n keep their contents. Assumes nothing.
+-- places of the route row beyond n keep their contents.
 use Prim.Native.Nat.{ℕ, _+_, _-_, _*_, _≤_}
 use mathlib.Core.Path.{_≡_, refl, ap, _∙_}
 use mathlib.Core.Bool.{Bool, true}

@@ -12,7 +12,7 @@ use Rattle.walks.specs.Least.{Reached, Dist}
 use Rattle.walks.specs.LeastLaws.{best-dist, dist-turned, dist-sized, dist-unique}
 use Rattle.walks.specs.Through.{InS}
 use Rattle.settling.specs.declared.Labels.{Labels}
-use Rattle.settling.proofs.Choice.{and-yes, and-true}
+use Rattle.rules.proofs.AndLaws.{and-yes, and-true}
 use Rattle.settling.specs.Labels.{none, lengthOf, arcsOf}
 use Rattle.settling.specs.LengthsTo.{towardOf, onShortest, isInS}
 use Rattle.settling.proofs.SearchIsRight.{Label, best, absent, all-labels}

@@ -10,7 +10,8 @@ use Rattle.walks.specs.Settling.{Next}
 use Rattle.walks.specs.Scanning.{NoneBelow, NextBelow, none-pass, next-pass, none-take, next-keep, next-take, next-found, none-found}
 use Rattle.settling.specs.declared.Labels.{Labels}
 use Rattle.frontier.specs.declared.Pick.the-variants.{Node, Nothing}
-use Rattle.settling.proofs.Choice.{either, cond-yes, cond-no, cond-by, and-true, and-yes}
+use Rattle.settling.proofs.Choice.{either, cond-yes, cond-no, cond-by}
+use Rattle.rules.proofs.AndLaws.{and-true, and-yes}
 use Rattle.settling.specs.Labels.{none, lengthOf, arcsOf, settledOf, before}
 use Rattle.settling.specs.Nearest.{Leader, better, leaderOf, nearestOf}
 use Rattle.settling.specs.Seen.{seen}

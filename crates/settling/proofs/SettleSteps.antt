@@ -7,7 +7,8 @@ use lib.ListN.{getD}
 use borrow.Author.Tests.{eq-eqb, ne-eqb}
 use Rattle.walks.specs.Rows.{Rows}
 use Rattle.settling.specs.declared.Labels.{Labels}
-use Rattle.settling.proofs.Choice.{cond-yes, cond-no, and-yes, and-no}
+use Rattle.settling.proofs.Choice.{cond-yes, cond-no}
+use Rattle.rules.proofs.AndLaws.{and-yes, and-no}
 use Rattle.settling.specs.Labels.{lengthOf, arcsOf, offered, marked}
 use Rattle.settling.specs.Settle.{arcStep, relaxed, settleOf}
 

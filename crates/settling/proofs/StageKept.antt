@@ -15,7 +15,8 @@ use Rattle.walks.specs.Settling.{Progress, All, Next}
 use Rattle.walks.specs.Marking.{Relaxing, settle}
 use Rattle.walks.specs.Relaxing.{relax-none, relax-better, relaxed-all}
 use Rattle.settling.specs.declared.Labels.{Labels}
-use Rattle.settling.proofs.Choice.{cond-by, and-true, and-yes}
+use Rattle.settling.proofs.Choice.{cond-by}
+use Rattle.rules.proofs.AndLaws.{and-true, and-yes}
 use Rattle.settling.specs.Labels.{lengthOf, arcsOf, before, labelled, offered, marked}
 use Rattle.settling.specs.Settle.{arcStep, relaxed, settleOf}
 use Rattle.settling.specs.Seen.{seen}

@@ -18,7 +18,8 @@ use Rattle.walks.specs.Tracing.{Fits, fits-chosen, some-fits, traced-start, fit
 use Rattle.settling.specs.declared.Labels.{Labels}
 use Rattle.settling.specs.declared.Into.{Into}
 use Rattle.settling.specs.declared.Into.the-variants.{Arc, Nothing}
-use Rattle.settling.proofs.Choice.{cond-by, and-true}
+use Rattle.settling.proofs.Choice.{cond-by}
+use Rattle.rules.proofs.AndLaws.{and-true}
 use Rattle.settling.specs.Labels.{none, lengthOf, arcsOf}
 use Rattle.settling.specs.Trace.{fits, arcFits, intoOf, traceOf}
 use Rattle.settling.proofs.TraceSteps.{fits-yes, arc-fits, first-is, first-none, trace-on}

@@ -13,7 +13,8 @@ use Rattle.walks.specs.Rows.{Rows, at}
 use Rattle.settling.specs.declared.Labels.{Labels}
 use Rattle.settling.specs.declared.Into.{Into}
 use Rattle.settling.specs.declared.Into.the-variants.{Arc, Nothing}
-use Rattle.settling.proofs.Choice.{cond-yes, cond-no, cond-by, and-yes, and-no}
+use Rattle.settling.proofs.Choice.{cond-yes, cond-no, cond-by}
+use Rattle.rules.proofs.AndLaws.{and-yes, and-no}
 use Rattle.settling.specs.Labels.{lengthOf, arcsOf}
 use Rattle.settling.specs.Trace.{fits, firstOf, arcFits, intoOf, afterInto, traceOf}
 

@@ -10,7 +10,8 @@ use lib.Seq.{getD-set-same, getD-set-other}
 use lib.Dec.{ltb}
 use borrow.Author.Tests.{lt-ltb, le-ltb, not-true, ltb-true}
 use Rattle.settling.specs.declared.Labels.{Labels}
-use Rattle.settling.proofs.Choice.{cond-yes, cond-no, cond-by, and-yes, and-no, and-true}
+use Rattle.settling.proofs.Choice.{cond-yes, cond-no, cond-by}
+use Rattle.rules.proofs.AndLaws.{and-yes, and-no, and-true}
 use Rattle.settling.specs.Labels.{none, lengthOf, arcsOf, settledOf, before, startOf, labelled, marked}
 use Rattle.frontier.specs.Tree.{keyOf, far, Mended, Rekeyed}
 use Rattle.frontier.proofs.Leaves.{leaf-same, leaf-other, mended-start}

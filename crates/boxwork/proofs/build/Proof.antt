@@ -5,7 +5,8 @@ use borrow.Author.Needs.{needs}
 use Rattle.rules.specs.declared.Judged.the-variants.{Fine}
 use Rattle.walks.specs.Rows.{rows}
 use Rattle.boxwork.specs.Says.{BuildSays}
-use Rattle.judging.proofs.FineLaws.{BoxesLent as Lent, build-fine}
+use Rattle.judging.proofs.StageLaws.{BoxesLent as Lent}
+use Rattle.judging.proofs.FineLaws.{build-fine}
 use Rattle.boxwork.proofs.Meaning.{heads-nodes, built-by}
 use Rattle.boxwork.proofs.build.Statement.{statement}
 use Rattle.boxwork.proofs.build.Tie as tie

@@ -4,7 +4,8 @@ use borrow.Author.Needs.{needs}
 use Rattle.rules.specs.declared.Judged.the-variants.{Fine}
 use Rattle.walks.specs.Rows.{rows}
 use Rattle.boxwork.specs.Says.{CheckSays}
-use Rattle.judging.proofs.FineLaws.{BoxesLent as Lent, build-fine, check-fine}
+use Rattle.judging.proofs.StageLaws.{BoxesLent as Lent}
+use Rattle.judging.proofs.FineLaws.{build-fine, check-fine}
 use Rattle.boxwork.proofs.Meaning.{missed-first, missed-none}
 use Rattle.boxwork.proofs.check.Statement.{statement}
 use Rattle.boxwork.proofs.check.Tie as tie

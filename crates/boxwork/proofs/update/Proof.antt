@@ -7,7 +7,8 @@ use Rattle.rules.specs.declared.Judged.the-variants.{Fine}
 use Rattle.walks.specs.Rows.{rows}
 use Rattle.drawing.proofs.Steps.{first-arcs}
 use Rattle.boxwork.specs.Says.{UpdateSays, reweighted}
-use Rattle.judging.proofs.FineLaws.{BoxesLent as Lent, build-fine, check-fine, update-fine}
+use Rattle.judging.proofs.StageLaws.{BoxesLent as Lent}
+use Rattle.judging.proofs.FineLaws.{build-fine, check-fine, update-fine}
 use Rattle.boxwork.proofs.ReweightedLaws.{lent-reweighted}
 use Rattle.boxwork.proofs.Meaning.{heads-nodes, updated-says}
 use Rattle.boxwork.proofs.update.Statement.{statement}

@@ -13,7 +13,8 @@ returns c = refusal-decides _ (c .before .before .judge-shaped .ensures) (c .enu
 returns-2 : tie.Need-returns-2
 unfolding boxedJudged
 returns-2 c =
-    rest-decides (c .before .before .before .judge-shaped .ensures) (c .before .enum-told .given .1) (c .judge-ends .ensures ∙ sym (nothing-follows _))
+    rest-decides (c .before .before .before .judge-shaped .ensures) (c .before .enum-told .given .1)
+    (c .judge-ends .ensures ∙ sym (nothing-follows _))
 
 pub judge-boxed-spec : {M : Type 1} → statement M
 judge-boxed-spec =

@@ -13,7 +13,8 @@ returns c = refusal-decides _ (c .before .before .judge-network .ensures) (c .en
 returns-2 : tie.Need-returns-2
 unfolding searchJudged
 returns-2 c =
-    rest-decides (c .before .before .before .judge-network .ensures) (c .before .enum-told .given .1) (c .judge-ends .ensures ∙ sym (nothing-follows _))
+    rest-decides (c .before .before .before .judge-network .ensures) (c .before .enum-told .given .1)
+    (c .judge-ends .ensures ∙ sym (nothing-follows _))
 
 pub judge-search-spec : {M : Type 1} → statement M
 judge-search-spec =

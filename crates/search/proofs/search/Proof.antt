@@ -1,4 +1,4 @@
--- `search::search` meets its contract: refused as judged, or answered over all arcs. Assumes nothing.
+-- `search::search` meets its contract: refused as judged, or answered over all arcs.
 use mathlib.Core.Path.{sym, _∙_}
 use borrow.Author.Needs.{needs}
 use lib.ListN.{length}

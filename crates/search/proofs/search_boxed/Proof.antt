@@ -1,4 +1,4 @@
--- `search::search_boxed` meets its contract: refused as judged, or answered over the arcs whose box holds t. Assumes nothing.
+-- `search::search_boxed` meets its contract: refused as judged, or answered over the arcs whose box holds t.
 use Prim.Native.Nat.{_*_, _≤_}
 use mathlib.Core.Path.{sym, _∙_}
 use native.Mathlib.Omega.{arith}

@@ -7,7 +7,7 @@ use native.Mathlib.Omega.{arith}
 use mir.Syntax.{w32}
 use mir.Val.{toZ}
 use borrow.Author.Tests.{not-true, not-false}
-use Rattle.settling.proofs.Choice.{and-yes, and-no}
+use Rattle.rules.proofs.AndLaws.{and-yes, and-no}
 use Rattle.geometry.proofs.Signed.{back}
 use Rattle.drawing.specs.Drawn.{markOf}
 use Rattle.drawing.specs.Missed.{missesPlace}

@@ -20,35 +20,12 @@ abbrev μ-loop : tie.MeasureT-loop
 loop-holds : tie.Need-loop-holds Inv-loop μ-loop
 loop-holds c = (omega arith, sym (ap isFine (each-none _ _)))
 
-mul-good-arc : tie.Need-mul-good-arc Inv-loop μ-loop
-mul-good-arc c = omega arith
-
-shared-slice-read-good-arc : tie.Need-shared-slice-read-good-arc Inv-loop μ-loop
-shared-slice-read-good-arc c = omega arith
-
-mul-good-arc-2 : tie.Need-mul-good-arc-2 Inv-loop μ-loop
-mul-good-arc-2 c = omega arith
-
-shared-slice-read-good-arc-2 : tie.Need-shared-slice-read-good-arc-2 Inv-loop μ-loop
-shared-slice-read-good-arc-2 c = omega arith
-
-mul-good-arc-3 : tie.Need-mul-good-arc-3 Inv-loop μ-loop
-mul-good-arc-3 c = omega arith
-
-shared-slice-read-good-arc-3 : tie.Need-shared-slice-read-good-arc-3 Inv-loop μ-loop
-shared-slice-read-good-arc-3 c = omega arith
-
-add-i : tie.Need-add-i Inv-loop μ-loop
-add-i c = omega arith
-
-loop-less : tie.Need-loop-less Inv-loop μ-loop
-loop-less c = omega arith
-
 loop-again : tie.Need-loop-again Inv-loop μ-loop
 loop-again c =
     let a = c .before .before .before .before .before .before .before .before .before .args in
     let R = rows (a .tails .now) (a .heads .now) (a .weights .now) in
-    (omega arith, each-joined _ _ (c .before .before .before .before .before .loop .i) (c .before .before .before .before .before .loop .inv .1) (c .good-arc .ensures ∙ arc-next (a .n) R (c .before .before .before .before .before .loop .i)))
+    let l = c .before .before .before .before .before .loop in
+    (omega arith, each-joined _ _ (l .i) (l .inv .1) (c .good-arc .ensures ∙ arc-next (a .n) R (l .i)))
 
 returns : tie.Need-returns Inv-loop μ-loop
 returns c =
@@ -62,14 +39,7 @@ all-arcs-good-spec =
     Inv-loop
     μ-loop
     loop-holds
-    mul-good-arc
-    shared-slice-read-good-arc
-    mul-good-arc-2
-    shared-slice-read-good-arc-2
-    mul-good-arc-3
-    shared-slice-read-good-arc-3
-    (λ c κs. search needs)
-    add-i
-    loop-less
+    (λ c. search needs) (λ c. search needs) (λ c. search needs) (λ c. search needs) (λ c. search needs) (λ c. search needs)
+    (λ c κs. search needs) (λ c. search needs) (λ c. search needs)
     loop-again
     returns)

@@ -24,52 +24,27 @@ returns c = sym (is-fine _ (sym (c .before .all-arcs-good .ensures) ∙ c .if1 .
 loop-holds : tie.Need-loop-holds Inv-loop μ-loop
 loop-holds c = (omega arith, each-none _ _)
 
-mul-good-arc : tie.Need-mul-good-arc Inv-loop μ-loop
-mul-good-arc c = omega arith
-
-shared-slice-read-good-arc : tie.Need-shared-slice-read-good-arc Inv-loop μ-loop
-shared-slice-read-good-arc c = omega arith
-
-mul-good-arc-2 : tie.Need-mul-good-arc-2 Inv-loop μ-loop
-mul-good-arc-2 c = omega arith
-
-shared-slice-read-good-arc-2 : tie.Need-shared-slice-read-good-arc-2 Inv-loop μ-loop
-shared-slice-read-good-arc-2 c = omega arith
-
-mul-good-arc-3 : tie.Need-mul-good-arc-3 Inv-loop μ-loop
-mul-good-arc-3 c = omega arith
-
-shared-slice-read-good-arc-3 : tie.Need-shared-slice-read-good-arc-3 Inv-loop μ-loop
-shared-slice-read-good-arc-3 c = omega arith
-
-add-t20 : tie.Need-add-t20 Inv-loop μ-loop
-add-t20 c = omega arith
-
-cast-t21 : tie.Need-cast-t21 Inv-loop μ-loop
-cast-t21 c = omega arith
-
 returns-2 : tie.Need-returns-2 Inv-loop μ-loop
 returns-2 c =
     let a = c .before .before .before .before .before .before .before .before .before .before .before .before .args in
     let R = rows (a .tails .now) (a .heads .now) (a .weights .now) in
-    sym (each-first _ _ (c .before .before .before .before .before .before .loop .at) (a .m) (c .before .before .before .before .before .before .loop .inv .1) (sym (arc-next (a .n) R (c .before .before .before .before .before .before .loop .at)) ∙ (sym (c .before .good-arc .ensures) ∙ not-true _ (c .if2 .taken))) (omega arith))
-
-add-at : tie.Need-add-at Inv-loop μ-loop
-add-at c = omega arith
-
-loop-less : tie.Need-loop-less Inv-loop μ-loop
-loop-less c = omega arith
+    let l = c .before .before .before .before .before .before .loop in
+    let bad = sym (c .before .good-arc .ensures) ∙ not-true _ (c .if2 .taken) in
+    sym (each-first _ _ (l .at) (a .m) (l .inv .1) (sym (arc-next (a .n) R (l .at)) ∙ bad) (omega arith))
 
 loop-again : tie.Need-loop-again Inv-loop μ-loop
 loop-again c =
     let a = c .before .before .before .before .before .before .before .before .before .before .before .before .args in
     let R = rows (a .tails .now) (a .heads .now) (a .weights .now) in
-    (omega arith, each-more _ _ (c .before .before .before .before .before .before .loop .at) (c .before .before .before .before .before .before .loop .inv .1) (sym (arc-next (a .n) R (c .before .before .before .before .before .before .loop .at)) ∙ (sym (c .before .good-arc .ensures) ∙ not-false _ (c .if2 .left))))
+    let l = c .before .before .before .before .before .before .loop in
+    let good = sym (c .before .good-arc .ensures) ∙ not-false _ (c .if2 .left) in
+    (omega arith, each-more _ _ (l .at) (l .inv .1) (sym (arc-next (a .n) R (l .at)) ∙ good))
 
 returns-3 : tie.Need-returns-3 Inv-loop μ-loop
 returns-3 c =
-    let last : c .before .loop .at ≡ c .before .before .before .before .before .before .before .args .m = omega arith in
-    sym (rw last at (c .before .loop .inv .1))
+    let l = c .before .loop in
+    let last : l .at ≡ c .before .before .before .before .before .before .before .args .m = omega arith in
+    sym (rw last at (l .inv .1))
 
 pub judge-arcs-spec : {M : Type 1} → statement M
 judge-arcs-spec =
@@ -80,17 +55,9 @@ judge-arcs-spec =
     (λ c κs. search needs)
     returns
     loop-holds
-    mul-good-arc
-    shared-slice-read-good-arc
-    mul-good-arc-2
-    shared-slice-read-good-arc-2
-    mul-good-arc-3
-    shared-slice-read-good-arc-3
-    (λ c κs. search needs)
-    add-t20
-    cast-t21
+    (λ c. search needs) (λ c. search needs) (λ c. search needs) (λ c. search needs) (λ c. search needs) (λ c. search needs)
+    (λ c κs. search needs) (λ c. search needs) (λ c. search needs)
     returns-2
-    add-at
-    loop-less
+    (λ c. search needs) (λ c. search needs)
     loop-again
     returns-3)

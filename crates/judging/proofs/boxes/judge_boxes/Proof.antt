@@ -23,33 +23,19 @@ returns c = sym (is-fine _ (sym (c .before .all-boxes-good .ensures) ∙ c .if1 
 loop-holds : tie.Need-loop-holds Inv-loop μ-loop
 loop-holds c = (omega arith, each-none _ _)
 
-mul-good-box : tie.Need-mul-good-box Inv-loop μ-loop
-mul-good-box c = omega arith
-
-good-box-requires : tie.Need-good-box-requires Inv-loop μ-loop
-good-box-requires c κs = omega arith
-
-add-t8 : tie.Need-add-t8 Inv-loop μ-loop
-add-t8 c = omega arith
-
-cast-t9 : tie.Need-cast-t9 Inv-loop μ-loop
-cast-t9 c = omega arith
-
 returns-2 : tie.Need-returns-2 Inv-loop μ-loop
 returns-2 c =
     let a = c .before .before .before .before .before .before .args in
-    sym (each-first _ _ (c .before .before .before .loop .at) (a .m) (c .before .before .before .loop .inv .1) (sym (box-next (a .boxes .now) (c .before .before .before .loop .at)) ∙ (sym (c .before .good-box .ensures) ∙ not-true _ (c .if2 .taken))) (omega arith))
-
-add-at : tie.Need-add-at Inv-loop μ-loop
-add-at c = omega arith
-
-loop-less : tie.Need-loop-less Inv-loop μ-loop
-loop-less c = omega arith
+    let l = c .before .before .before .loop in
+    let bad = sym (c .before .good-box .ensures) ∙ not-true _ (c .if2 .taken) in
+    sym (each-first _ _ (l .at) (a .m) (l .inv .1) (sym (box-next (a .boxes .now) (l .at)) ∙ bad) (omega arith))
 
 loop-again : tie.Need-loop-again Inv-loop μ-loop
 loop-again c =
     let a = c .before .before .before .before .before .before .args in
-    (omega arith, each-more _ _ (c .before .before .before .loop .at) (c .before .before .before .loop .inv .1) (sym (box-next (a .boxes .now) (c .before .before .before .loop .at)) ∙ (sym (c .before .good-box .ensures) ∙ not-false _ (c .if2 .left))))
+    let l = c .before .before .before .loop in
+    let good = sym (c .before .good-box .ensures) ∙ not-false _ (c .if2 .left) in
+    (omega arith, each-more _ _ (l .at) (l .inv .1) (sym (box-next (a .boxes .now) (l .at)) ∙ good))
 
 returns-3 : tie.Need-returns-3 Inv-loop μ-loop
 returns-3 c =
@@ -65,12 +51,8 @@ judge-boxes-spec =
     (λ c κs. search needs)
     returns
     loop-holds
-    mul-good-box
-    good-box-requires
-    add-t8
-    cast-t9
+    (λ c. search needs) (λ c κs. search needs) (λ c. search needs) (λ c. search needs)
     returns-2
-    add-at
-    loop-less
+    (λ c. search needs) (λ c. search needs)
     loop-again
     returns-3)

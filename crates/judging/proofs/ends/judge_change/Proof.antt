@@ -10,7 +10,8 @@ returns c = refusal-decides _ (c .before .before .unless .ensures) (c .enum-told
 
 returns-2 : tie.Need-returns-2
 returns-2 c =
-    rest-decides (c .before .before .before .unless .ensures) (c .before .enum-told .given .1) (c .unless2 .ensures ∙ sym (nothing-follows _))
+    rest-decides (c .before .before .before .unless .ensures) (c .before .enum-told .given .1)
+    (c .unless2 .ensures ∙ sym (nothing-follows _))
 
 pub judge-change-spec : {M : Type 1} → statement M
 judge-change-spec =

@@ -6,6 +6,7 @@ use Rattle.rules.specs.Judging.{isFine}
 use Rattle.rules.proofs.JudgingLaws.{each-none, each-joined}
 use Rattle.judging.specs.Order.{coordinates}
 use Rattle.judging.proofs.NextLaws.{place-next}
+use borrow.Author.Needs.{needs}
 use Rattle.judging.proofs.places.all_places_good.Statement.{statement}
 use Rattle.judging.proofs.places.all_places_good.Tie as tie
 
@@ -18,19 +19,11 @@ abbrev μ-loop : tie.MeasureT-loop
 loop-holds : tie.Need-loop-holds Inv-loop μ-loop
 loop-holds c = (omega arith, sym (ap isFine (each-none _ _)))
 
-good-place-requires : tie.Need-good-place-requires Inv-loop μ-loop
-good-place-requires c κs = omega arith
-
-add-i : tie.Need-add-i Inv-loop μ-loop
-add-i c = omega arith
-
-loop-less : tie.Need-loop-less Inv-loop μ-loop
-loop-less c = omega arith
-
 loop-again : tie.Need-loop-again Inv-loop μ-loop
 loop-again c =
     let a = c .before .before .before .args in
-    (omega arith, each-joined _ _ (c .before .before .loop .i) (c .before .before .loop .inv .1) (c .good-place .ensures ∙ place-next (a .x .now) (a .y .now) (c .before .before .loop .i)))
+    let l = c .before .before .loop in
+    (omega arith, each-joined _ _ (l .i) (l .inv .1) (c .good-place .ensures ∙ place-next (a .x .now) (a .y .now) (l .i)))
 
 returns : tie.Need-returns Inv-loop μ-loop
 returns c =
@@ -38,4 +31,12 @@ returns c =
     rw last at (c .before .loop .inv .1)
 
 pub all-places-good-spec : {M : Type 1} → statement M
-all-places-good-spec = tie.close (tie.spec Inv-loop μ-loop loop-holds good-place-requires add-i loop-less loop-again returns)
+all-places-good-spec =
+    tie.close
+    (tie.spec
+    Inv-loop
+    μ-loop
+    loop-holds
+    (λ c κs. search needs) (λ c. search needs) (λ c. search needs)
+    loop-again
+    returns)

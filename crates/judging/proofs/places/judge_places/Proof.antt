@@ -23,30 +23,19 @@ returns c = sym (is-fine _ (sym (c .before .all-places-good .ensures) ∙ c .if1
 loop-holds : tie.Need-loop-holds Inv-loop μ-loop
 loop-holds c = (omega arith, each-none _ _)
 
-good-place-requires : tie.Need-good-place-requires Inv-loop μ-loop
-good-place-requires c κs = omega arith
-
-add-t8 : tie.Need-add-t8 Inv-loop μ-loop
-add-t8 c = omega arith
-
-cast-t9 : tie.Need-cast-t9 Inv-loop μ-loop
-cast-t9 c = omega arith
-
 returns-2 : tie.Need-returns-2 Inv-loop μ-loop
 returns-2 c =
     let a = c .before .before .before .before .before .before .args in
-    sym (each-first _ _ (c .before .before .before .loop .at) (a .n) (c .before .before .before .loop .inv .1) (sym (place-next (a .x .now) (a .y .now) (c .before .before .before .loop .at)) ∙ (sym (c .before .good-place .ensures) ∙ not-true _ (c .if2 .taken))) (omega arith))
-
-add-at : tie.Need-add-at Inv-loop μ-loop
-add-at c = omega arith
-
-loop-less : tie.Need-loop-less Inv-loop μ-loop
-loop-less c = omega arith
+    let l = c .before .before .before .loop in
+    let bad = sym (c .before .good-place .ensures) ∙ not-true _ (c .if2 .taken) in
+    sym (each-first _ _ (l .at) (a .n) (l .inv .1) (sym (place-next (a .x .now) (a .y .now) (l .at)) ∙ bad) (omega arith))
 
 loop-again : tie.Need-loop-again Inv-loop μ-loop
 loop-again c =
     let a = c .before .before .before .before .before .before .args in
-    (omega arith, each-more _ _ (c .before .before .before .loop .at) (c .before .before .before .loop .inv .1) (sym (place-next (a .x .now) (a .y .now) (c .before .before .before .loop .at)) ∙ (sym (c .before .good-place .ensures) ∙ not-false _ (c .if2 .left))))
+    let l = c .before .before .before .loop in
+    let good = sym (c .before .good-place .ensures) ∙ not-false _ (c .if2 .left) in
+    (omega arith, each-more _ _ (l .at) (l .inv .1) (sym (place-next (a .x .now) (a .y .now) (l .at)) ∙ good))
 
 returns-3 : tie.Need-returns-3 Inv-loop μ-loop
 returns-3 c =
@@ -62,11 +51,8 @@ judge-places-spec =
     (λ c κs. search needs)
     returns
     loop-holds
-    good-place-requires
-    add-t8
-    cast-t9
+    (λ c κs. search needs) (λ c. search needs) (λ c. search needs)
     returns-2
-    add-at
-    loop-less
+    (λ c. search needs) (λ c. search needs)
     loop-again
     returns-3)

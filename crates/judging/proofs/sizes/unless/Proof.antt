@@ -1,4 +1,4 @@
--- `judging::sizes::unless` meets its contract. Assumes nothing.
+-- `judging::sizes::unless` meets its contract.
 use borrow.Author.Needs.{needs}
 use Rattle.judging.proofs.sizes.unless.Statement.{statement}
 use Rattle.judging.proofs.sizes.unless.Tie as tie

@@ -1,11 +1,11 @@
--- `judging::judge_shaped` meets its contract: a refusal is handed on as it came.
+-- `judging::network::judge_shaped` meets its contract: a refusal is handed on as it came.
 use mathlib.Core.Path.{sym, _∙_}
 use Rattle.rules.proofs.JudgingLaws.{refusal-decides, rest-decides, nothing-follows}
 use Rattle.judging.specs.Order.{shapedJudged}
-use Rattle.judging.proofs.FineLaws.{placed-fine}
+use Rattle.judging.proofs.StageLaws.{placed-fine}
 use borrow.Author.Needs.{needs}
-use Rattle.judging.proofs.judge_shaped.Statement.{statement}
-use Rattle.judging.proofs.judge_shaped.Tie as tie
+use Rattle.judging.proofs.network.judge_shaped.Statement.{statement}
+use Rattle.judging.proofs.network.judge_shaped.Tie as tie
 
 returns : tie.Need-returns
 unfolding shapedJudged
@@ -19,7 +19,8 @@ judge-boxes-requires c κs =
 returns-2 : tie.Need-returns-2
 unfolding shapedJudged
 returns-2 c =
-    rest-decides (c .before .before .before .judge-placed .ensures) (c .before .enum-told .given .1) (c .judge-boxes .ensures ∙ sym (nothing-follows _))
+    rest-decides (c .before .before .before .judge-placed .ensures) (c .before .enum-told .given .1)
+    (c .judge-boxes .ensures ∙ sym (nothing-follows _))
 
 pub judge-shaped-spec : {M : Type 1} → statement M
 judge-shaped-spec =
