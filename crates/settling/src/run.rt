@@ -30,7 +30,9 @@ fn run_by(
     boxes: &[i32],
 ) -> Outcome
     requires { ⌜ (1 ≤ rounds) × (rounds ≤ 513) × Posed task (rows (now tails) (now heads) (now weights)) (now boxes) ⌝ }
-    ensures { λ r. ⌜ r ≡ outcomeOf (rows (now (tails .entry)) (now (heads .entry)) (now (weights .entry))) (now (boxes .entry)) task ⌝ }
+    ensures { λ r.
+        let R = rows (now (tails .entry)) (now (heads .entry)) (now (weights .entry)) in
+        ⌜ r ≡ outcomeOf R (now (boxes .entry)) task ⌝ }
 {
     let mut first = [task.m as u32; 512];
     let mut next = [0u32; 2048];
