@@ -2,8 +2,9 @@
 use Prim.Native.Nat.{ℕ, _+_, _-_, _<_, _≤_}
 use native.Mathlib.Omega.{arith}
 use native.Mathlib.Decide.{decLt}
-use mathlib.Core.Bool.{Bool, true, false, true≢false, false≢true}
+use mathlib.Core.Bool.{Bool, true, false, cond, true≢false, false≢true}
 use mathlib.Core.Path.{_≡_, refl, sym, _∙_}
+use mathlib.Core.Logic.{inl, inr}
 use mathlib.Core.List.{List}
 use lib.IntN.{ℤ}
 use lib.ListN.{getD, replicate}
@@ -13,6 +14,7 @@ use Rattle.frontier.specs.declared.Pick.{Pick}
 use Rattle.frontier.specs.declared.Pick.the-variants.{Node, Nothing}
 use Rattle.frontier.specs.Tree.{keyOf, far, pickOf, Rekeyed}
 use Rattle.settling.specs.declared.Labels.{Labels}
+use Rattle.settling.specs.declared.Stride.{Stride}
 use Rattle.settling.specs.declared.Task.{Task}
 use Rattle.settling.specs.Labels.{arcsOf, startOf}
 use Rattle.settling.specs.Settle.{settleOf}
@@ -22,6 +24,7 @@ use Rattle.settling.specs.Toward.{keeps, Posed}
 use Rattle.settling.specs.Stage.{Ready}
 use Rattle.settling.specs.Front.{Become}
 use Rattle.settling.specs.Round.{outcomeOf, Round, Strode}
+use Rattle.settling.proofs.Choice.{either}
 use Rattle.settling.proofs.RunSteps.{run-over, run-stuck, run-found, run-on}
 use Rattle.settling.proofs.NearestIsNext.{nearest-next}
 use Rattle.settling.proofs.RunEnds.{ready, stage-start, stage-on}
@@ -90,3 +93,19 @@ module _ {R : Rows} {boxes : List ℤ} {a : Task} (end : ℕ) (tree : List ℕ) 
 
   pub strode-on : count ≡ end → Round R boxes a count L tree → Strode R boxes a end (record { labels = L; count = count; found = false; over = false }) tree
   strode-on e round = record { over = λ z. absurd (false≢true z); count = λ z. e; round = λ z. round }
+
+-- ---- Step after step
+
+pub strode-here : {R : Rows} {boxes : List ℤ} {a : Task} {end : ℕ} {r : Stride} {tree : List ℕ} → Strode R boxes a end r tree → Strode R boxes a (r .count) r tree
+strode-here h = record { over = h .over; count = λ e. refl; round = h .round }
+
+-- more than the nodes that are left, and none after the end
+abbrev pub leftOf : ℕ → Stride → ℕ
+leftOf n r = cond (r .over) 0 (n + 1 - r .count)
+
+pub strode-less : {R : Rows} {boxes : List ℤ} {a : Task} {r r′ : Stride} {tree tree′ : List ℕ} (rounds : ℕ) → 1 ≤ rounds → r .over ≡ false
+    → Strode R boxes a (r .count) r tree → Strode R boxes a (r .count + rounds) r′ tree′ → leftOf (a .n) r′ < leftOf (a .n) r
+strode-less {r′ = r′} rounds some e old h = elim (either (r′ .over)) [
+  | inl o ↦ rw (e, o) (omega (arith, old .round e .high))
+  | inr o ↦ rw (e, o) (omega (arith, h .count o, h .round o .high))
+]

@@ -8,6 +8,7 @@ ghost use Rattle.settling.specs.Toward.{Room, Posed, keeps};
 ghost use Rattle.settling.specs.Round.{outcomeOf};
 use crate::Labels;
 use crate::Outcome;
+use crate::Stride;
 use crate::Task;
 use crate::Toward;
 use crate::label::start;
@@ -39,12 +40,16 @@ fn run_by(
     link(task.m, tails, &mut first, &mut next);
     let mut tree = [FAR; 1024];
     put(&mut tree, task.s - 1, key(0, 0, task.s - 1));
-    let mut labels = start(task.s);
-    let mut count: usize = 0;
-    loop {
-        let r = settle(
-            labels,
-            count,
+    let mut r = Stride {
+        labels: start(task.s),
+        count: 0,
+        found: false,
+        over: false,
+    };
+    while !r.over {
+        r = settle(
+            r.labels,
+            r.count,
             rounds,
             &mut tree,
             task,
@@ -55,15 +60,12 @@ fn run_by(
             &next,
             boxes,
         );
-        labels = r.labels;
-        count = r.count;
-        if r.over {
-            return Outcome {
-                labels,
-                count,
-                found: r.found,
-            };
-        }
+    }
+    let labels = r.labels;
+    Outcome {
+        labels,
+        count: r.count,
+        found: r.found,
     }
 }
 
