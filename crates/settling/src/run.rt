@@ -5,7 +5,7 @@ ghost use Rattle.walks.specs.Rows.{rows, Sound};
 ghost use mathlib.Core.Bool.{true};
 ghost use Rattle.settling.specs.Run.{searchOf, labelsOf};
 ghost use Rattle.settling.specs.Toward.{Room, Posed, keeps};
-ghost use Rattle.settling.specs.Round.{outcomeOf};
+ghost use Rattle.settling.specs.Step.{outcomeOf};
 use crate::Labels;
 use crate::Outcome;
 use crate::Stride;

@@ -6,10 +6,10 @@ use mathlib.Core.Path.{refl}
 use lib.ListN.{length-replicate}
 use Rattle.walks.specs.Rows.{rows}
 use Rattle.frontier.proofs.Leaves.{mended-start}
-use Rattle.settling.specs.Round.{Strode}
+use Rattle.settling.specs.Step.{Strode}
 use Rattle.settling.proofs.Widen.{widened}
 use Rattle.settling.proofs.AlongChains.{tails-ends}
-use Rattle.settling.proofs.Rounds.{round-start, strode-on, strode-here, leftOf, strode-less}
+use Rattle.settling.proofs.StepByStep.{stands-start, strode-on, strode-here, leftOf, strode-less}
 use borrow.Author.Needs.{needs}
 use Rattle.settling.proofs.run.run_by.Statement.{statement}
 use Rattle.settling.proofs.run.run_by.Tie as tie
@@ -31,11 +31,11 @@ put-requires c κs =
 
 loop-holds : tie.Need-loop-holds Inv-loop μ-loop
 loop-holds c =
-    strode-on _ _ _ 0 refl (round-start (c .before .before .before .before .before .before .before .before .before .before .before .before .before .pre .2) _ (c .before .put .ensures) (c .before .before .key .ensures) (c .start .ensures))
+    strode-on _ _ _ 0 refl (stands-start (c .before .before .before .before .before .before .before .before .before .before .before .before .before .pre .2) _ (c .before .put .ensures) (c .before .before .key .ensures) (c .start .ensures))
 
 settle-requires : tie.Need-settle-requires Inv-loop μ-loop
 settle-requires c κs =
-    (c .before .before .before .before .before .loop .inv .round (not-true _ (c .before .before .before .if1 .taken)), c .before .before .before .before .before .before .before .before .before .before .before .before .link .ensures, c .before .before .before .before .before .before .before .before .before .before .before .before .before .before .before .before .before .before .before .pre .1)
+    (c .before .before .before .before .before .loop .inv .stands (not-true _ (c .before .before .before .if1 .taken)), c .before .before .before .before .before .before .before .before .before .before .before .before .link .ensures, c .before .before .before .before .before .before .before .before .before .before .before .before .before .before .before .before .before .before .before .pre .1)
 
 loop-less : tie.Need-loop-less Inv-loop μ-loop
 loop-less c =
