@@ -11,7 +11,7 @@ use lib.Seq.{getD-set-same, getD-set-other}
 use Rattle.walks.specs.Marking.{Started, Marked}
 use Rattle.walks.specs.Relaxing.{Relabelled}
 use Rattle.settling.specs.declared.Labels.{Labels}
-use Rattle.settling.specs.Labels.{none, startOf, labelled, marked, lengthOf}
+use Rattle.settling.specs.Labels.{none, startOf, labelled, marked}
 use Rattle.settling.specs.Seen.{seen}
 use Rattle.settling.specs.Stage.{Sized, Full}
 

@@ -1,10 +1,10 @@
 -- The node of the least key is the next node to be settled. Assumes nothing.
-use Prim.Native.Nat.{ℕ, zero, suc, _+_, _*_, _-_, _/_, _%_, _<_, _≤_}
+use Prim.Native.Nat.{ℕ, _+_, _-_, _%_, _<_, _≤_}
 use native.Mathlib.Omega.{arith}
-use native.Mathlib.Decide.{ℕ-discrete, decLe, decLt}
-use mathlib.Core.Bool.{Bool, true, false, not, _&&_, false≢true}
+use native.Mathlib.Decide.{ℕ-discrete, decLt}
+use mathlib.Core.Bool.{true, false, false≢true}
 use mathlib.Core.Path.{_≡_, refl, sym, ap, _∙_}
-use mathlib.Core.Logic.{_≢_, _⊎_, inl, inr}
+use mathlib.Core.Logic.{_≢_, inl, inr}
 use mathlib.Core.List.{List}
 use lib.ListN.{length, getD}
 use Rattle.walks.specs.Order.{Before}

@@ -1,17 +1,16 @@
 -- The labels of a search from t in the reverse network are the lengths to t, and tell S(e). Assumes nothing.
 use Prim.Native.Nat.{ℕ, _+_, _<_, _≤_}
 use native.Mathlib.Omega.{arith}
-use mathlib.Core.Bool.{Bool, true, _&&_}
+use mathlib.Core.Bool.{true}
 use mathlib.Core.Path.{_≡_, refl, sym, subst, _∙_}
 use lib.Dec.{ltb, eqb}
 use borrow.Author.Tests.{lt-ltb, ltb-true, eqb-true, eq-eqb}
 use Rattle.walks.specs.Walk.{Net, reverse}
 use Rattle.walks.specs.WalkLaws.{backward, kept-all}
-use Rattle.walks.specs.Rows.{Rows, at, network, turned, turned-network, turned-sound, Sound}
+use Rattle.walks.specs.Rows.{Rows, network, turned, turned-network, turned-sound, Sound}
 use Rattle.walks.specs.Least.{Reached, Dist}
 use Rattle.walks.specs.LeastLaws.{best-dist, dist-turned, dist-sized, dist-unique}
 use Rattle.walks.specs.Through.{InS}
-use Rattle.settling.specs.declared.Labels.{Labels}
 use Rattle.rules.proofs.AndLaws.{and-yes, and-true}
 use Rattle.settling.specs.Labels.{none, lengthOf, arcsOf}
 use Rattle.settling.specs.LengthsTo.{towardOf, onShortest, isInS}

@@ -14,4 +14,4 @@ pub mod LengthsAndS
 mod TreeFollows
 mod LeastKeyIsNearest
 mod AlongChains
-mod Rounds
+mod StepByStep

@@ -11,7 +11,7 @@ use Rattle.walks.specs.Walk.{kept}
 use Rattle.walks.specs.Rows.{Rows, at, network, Sound}
 use Rattle.walks.specs.Order.{notAfter-as}
 use Rattle.walks.specs.Limits.{sound-within, only-within, walk-light, few-arcs}
-use Rattle.walks.specs.Settling.{Progress, All, Next}
+use Rattle.walks.specs.Settling.{Next}
 use Rattle.walks.specs.Marking.{Relaxing, settle}
 use Rattle.walks.specs.Relaxing.{relax-none, relax-better, relaxed-all}
 use Rattle.settling.specs.declared.Labels.{Labels}

@@ -1,5 +1,5 @@
 -- The tree of keys follows the labels as they start, are marked and are changed. Assumes nothing.
-use Prim.Native.Nat.{ℕ, _+_, _*_, _-_, _<_, _≤_}
+use Prim.Native.Nat.{ℕ, _+_, _-_, _<_, _≤_}
 use native.Mathlib.Omega.{arith}
 use native.Mathlib.Decide.{ℕ-discrete, decLt}
 use mathlib.Core.Bool.{Bool, true, false, not, _&&_}
@@ -13,7 +13,7 @@ use Rattle.settling.specs.declared.Labels.{Labels}
 use Rattle.settling.proofs.Choice.{cond-yes, cond-no, cond-by}
 use Rattle.rules.proofs.AndLaws.{and-yes, and-no, and-true}
 use Rattle.settling.specs.Labels.{none, lengthOf, arcsOf, settledOf, before, startOf, labelled, marked}
-use Rattle.frontier.specs.Tree.{keyOf, far, Mended, Rekeyed}
+use Rattle.frontier.specs.Tree.{keyOf, far, Rekeyed}
 use Rattle.frontier.proofs.Leaves.{leaf-same, leaf-other, mended-start}
 use Rattle.settling.specs.Stage.{Sized}
 use Rattle.settling.specs.Front.{leafKey, Front}

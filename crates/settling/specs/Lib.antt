@@ -9,4 +9,4 @@ pub mod LengthsTo
 pub mod Seen
 pub mod Stage
 pub mod Front
-pub mod Round
+pub mod Step

@@ -45,7 +45,10 @@ pub fn offer(
     k: u32,
 )
     requires { ⌜ Offer v l k × Front (labels (now length) (now arcs) (now settled)) (now tree) ⌝ }
-    ensures { λ _. ⌜ Become (offered (labels (now (length .entry)) (now (arcs .entry)) (now (settled .entry))) v l k) (labels (now (length .exit)) (now (arcs .exit)) (now (settled .entry))) (now (tree .exit)) ⌝ }
+    ensures { λ _.
+        let L = labels (now (length .entry)) (now (arcs .entry)) (now (settled .entry)) in
+        let L′ = labels (now (length .exit)) (now (arcs .exit)) (now (settled .entry)) in
+        ⌜ Become (offered L v l k) L′ (now (tree .exit)) ⌝ }
 {
     let at = v - 1;
     if earlier(l, k, length[at], arcs[at]) {

@@ -26,8 +26,14 @@ pub fn settle_one(
     next: &[u32; 2048],
     boxes: &[i32],
 )
-    requires { ⌜ Posed task (rows (now tails) (now heads) (now weights)) (now boxes) × Chained (task .m) (now tails) (now first) (now next) × Ready (task .n) (labels (now length) (now arcs) (now settled)) u × Front (labels (now length) (now arcs) (now settled)) (now tree) ⌝ }
-    ensures { λ _. ⌜ Become (settleOf (rows (now (tails .entry)) (now (heads .entry)) (now (weights .entry))) (keeps (task .toward) (now (boxes .entry))) (task .m) (labels (now (length .entry)) (now (arcs .entry)) (now (settled .entry))) u) (labels (now (length .exit)) (now (arcs .exit)) (now (settled .exit))) (now (tree .exit)) ⌝ }
+    requires { let R = rows (now tails) (now heads) (now weights) in
+        let L = labels (now length) (now arcs) (now settled) in
+        ⌜ Posed task R (now boxes) × Chained (task .m) (now tails) (now first) (now next) × Ready (task .n) L u × Front L (now tree) ⌝ }
+    ensures { λ _.
+        let R = rows (now (tails .entry)) (now (heads .entry)) (now (weights .entry)) in
+        let L = labels (now (length .entry)) (now (arcs .entry)) (now (settled .entry)) in
+        let L′ = labels (now (length .exit)) (now (arcs .exit)) (now (settled .exit)) in
+        ⌜ Become (settleOf R (keeps (task .toward) (now (boxes .entry))) (task .m) L u) L′ (now (tree .exit)) ⌝ }
 {
     let m = task.m;
     let toward = task.toward;

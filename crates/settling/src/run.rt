@@ -5,9 +5,10 @@ ghost use Rattle.walks.specs.Rows.{rows, Sound};
 ghost use mathlib.Core.Bool.{true};
 ghost use Rattle.settling.specs.Run.{searchOf, labelsOf};
 ghost use Rattle.settling.specs.Toward.{Room, Posed, keeps};
-ghost use Rattle.settling.specs.Round.{outcomeOf};
+ghost use Rattle.settling.specs.Step.{outcomeOf};
 use crate::Labels;
 use crate::Outcome;
+use crate::Stride;
 use crate::Task;
 use crate::Toward;
 use crate::label::start;
@@ -30,19 +31,25 @@ fn run_by(
     boxes: &[i32],
 ) -> Outcome
     requires { ⌜ (1 ≤ rounds) × (rounds ≤ 513) × Posed task (rows (now tails) (now heads) (now weights)) (now boxes) ⌝ }
-    ensures { λ r. ⌜ r ≡ outcomeOf (rows (now (tails .entry)) (now (heads .entry)) (now (weights .entry))) (now (boxes .entry)) task ⌝ }
+    ensures { λ r.
+        let R = rows (now (tails .entry)) (now (heads .entry)) (now (weights .entry)) in
+        ⌜ r ≡ outcomeOf R (now (boxes .entry)) task ⌝ }
 {
     let mut first = [task.m as u32; 512];
     let mut next = [0u32; 2048];
     link(task.m, tails, &mut first, &mut next);
     let mut tree = [FAR; 1024];
     put(&mut tree, task.s - 1, key(0, 0, task.s - 1));
-    let mut labels = start(task.s);
-    let mut count: usize = 0;
-    loop {
-        let r = settle(
-            labels,
-            count,
+    let mut r = Stride {
+        labels: start(task.s),
+        count: 0,
+        found: false,
+        over: false,
+    };
+    while !r.over {
+        r = settle(
+            r.labels,
+            r.count,
             rounds,
             &mut tree,
             task,
@@ -53,15 +60,12 @@ fn run_by(
             &next,
             boxes,
         );
-        labels = r.labels;
-        count = r.count;
-        if r.over {
-            return Outcome {
-                labels,
-                count,
-                found: r.found,
-            };
-        }
+    }
+    let labels = r.labels;
+    Outcome {
+        labels,
+        count: r.count,
+        found: r.found,
     }
 }
 

@@ -2,7 +2,7 @@
 ghost use Prim.Native.Nat.{_+_, _≤_};
 ghost use Rattle.frontier.specs.Chain.{Chained};
 ghost use Rattle.walks.specs.Rows.{rows};
-ghost use Rattle.settling.specs.Round.{Round, Strode};
+ghost use Rattle.settling.specs.Step.{Stands, Strode};
 use crate::Labels;
 use crate::Stride;
 use crate::Task;
@@ -25,8 +25,11 @@ pub fn settle(
     next: &[u32; 2048],
     boxes: &[i32],
 ) -> Stride
-    requires { ⌜ Round (rows (now tails) (now heads) (now weights)) (now boxes) task count labels (now tree) × Chained (task .m) (now tails) (now first) (now next) × (rounds ≤ 513) ⌝ }
-    ensures { λ r. ⌜ Strode (rows (now (tails .entry)) (now (heads .entry)) (now (weights .entry))) (now (boxes .entry)) task (count + rounds) r (now (tree .exit)) ⌝ }
+    requires { let R = rows (now tails) (now heads) (now weights) in
+        ⌜ Stands R (now boxes) task count labels (now tree) × Chained (task .m) (now tails) (now first) (now next) × (rounds ≤ 513) ⌝ }
+    ensures { λ r.
+        let R = rows (now (tails .entry)) (now (heads .entry)) (now (weights .entry)) in
+        ⌜ Strode R (now (boxes .entry)) task (count + rounds) r (now (tree .exit)) ⌝ }
 {
     let mut length = labels.length;
     let mut arcs = labels.arcs;

@@ -37,8 +37,12 @@ fn arc_into(
     toward: Toward,
     boxes: &[i32],
 ) -> Into
-    requires { ⌜ (1 ≤ v) × (v ≤ 512) × Sound 512 m (rows (now tails) (now heads) (now weights)) × Room toward m (now boxes) × Chained m (now heads) (now first) (now next) ⌝ }
-    ensures { λ r. ⌜ r ≡ intoOf (rows (now (tails .entry)) (now (heads .entry)) (now (weights .entry))) (keeps toward (now (boxes .entry))) (labels (now (length .entry)) (now (arcs .entry)) []) v m ⌝ }
+    requires { let R = rows (now tails) (now heads) (now weights) in
+        ⌜ (1 ≤ v) × (v ≤ 512) × Sound 512 m R × Room toward m (now boxes) × Chained m (now heads) (now first) (now next) ⌝ }
+    ensures { λ r.
+        let R = rows (now (tails .entry)) (now (heads .entry)) (now (weights .entry)) in
+        let L = labels (now (length .entry)) (now (arcs .entry)) [] in
+        ⌜ r ≡ intoOf R (keeps toward (now (boxes .entry))) L v m ⌝ }
 {
     let l = length[v - 1];
     let k = arcs[v - 1];

@@ -1,24 +1,25 @@
--- `settling::run::run_by` meets its contract. The loop's invariant: the run stands at the labels at hand. Assumes nothing.
-use Prim.Native.Nat.{ℕ, _-_}
+-- `settling::run::run_by` meets its contract. The loop's invariant: the run is over, or stands at the labels at hand. Assumes nothing.
+use Prim.Native.Nat.{ℕ}
 use native.Mathlib.Omega.{arith}
+use borrow.Author.Tests.{not-true, not-false}
 use mathlib.Core.Path.{refl}
 use lib.ListN.{length-replicate}
 use Rattle.walks.specs.Rows.{rows}
 use Rattle.frontier.proofs.Leaves.{mended-start}
-use Rattle.settling.specs.Round.{Round}
+use Rattle.settling.specs.Step.{Strode}
 use Rattle.settling.proofs.Widen.{widened}
 use Rattle.settling.proofs.AlongChains.{tails-ends}
-use Rattle.settling.proofs.Rounds.{round-start}
+use Rattle.settling.proofs.StepByStep.{stands-start, strode-on, strode-here, leftOf, strode-less}
 use borrow.Author.Needs.{needs}
 use Rattle.settling.proofs.run.run_by.Statement.{statement}
 use Rattle.settling.proofs.run.run_by.Tie as tie
 
 abbrev Inv-loop : tie.InvT-loop
-Inv-loop rounds task tails heads weights boxes first next tree₀ labels₀ count₀ tree labels count =
-    Round (rows tails heads weights) boxes task count labels tree
+Inv-loop rounds task tails heads weights boxes first next tree₀ r₀ tree r =
+    Strode (rows tails heads weights) boxes task (r .count) r tree
 
 abbrev μ-loop : tie.MeasureT-loop
-μ-loop rounds task tails heads weights boxes first next tree₀ labels₀ count₀ tree labels count = task .n - count
+μ-loop rounds task tails heads weights boxes first next tree₀ r₀ tree r = leftOf (task .n) r
 
 link-requires : tie.Need-link-requires Inv-loop μ-loop
 link-requires c κs =
@@ -30,23 +31,21 @@ put-requires c κs =
 
 loop-holds : tie.Need-loop-holds Inv-loop μ-loop
 loop-holds c =
-    round-start (c .before .before .before .before .before .before .before .before .before .before .before .before .before .pre .2) _ (c .before .put .ensures) (c .before .before .key .ensures) (c .start .ensures)
+    strode-on _ _ _ 0 refl (stands-start (c .before .before .before .before .before .before .before .before .before .before .before .before .before .pre .2) _ (c .before .put .ensures) (c .before .before .key .ensures) (c .start .ensures))
 
 settle-requires : tie.Need-settle-requires Inv-loop μ-loop
 settle-requires c κs =
-    (c .before .before .before .loop .inv, c .before .before .before .before .before .before .before .before .before .before .link .ensures, c .before .before .before .before .before .before .before .before .before .before .before .before .before .before .before .before .before .pre .1)
-
-returns : tie.Need-returns Inv-loop μ-loop
-returns c = c .before .before .settle .ensures .over (c .if1 .taken)
+    (c .before .before .before .before .before .loop .inv .stands (not-true _ (c .before .before .before .if1 .taken)), c .before .before .before .before .before .before .before .before .before .before .before .before .link .ensures, c .before .before .before .before .before .before .before .before .before .before .before .before .before .before .before .before .before .before .before .pre .1)
 
 loop-less : tie.Need-loop-less Inv-loop μ-loop
 loop-less c =
-    let e = c .before .before .settle .ensures in
-    let go = c .if1 .left in
-    omega (arith, c .before .before .before .before .before .before .before .before .before .before .before .before .before .before .before .before .before .before .before .before .pre .0, e .count go, e .round go .high)
+    strode-less (c .before .before .before .before .before .before .before .before .before .before .before .before .before .before .before .before .before .before .before .before .args .rounds) (c .before .before .before .before .before .before .before .before .before .before .before .before .before .before .before .before .before .before .before .before .pre .0) (not-true _ (c .before .before .before .before .if1 .taken)) (c .before .before .before .before .before .before .loop .inv) (c .settle .ensures)
 
 loop-again : tie.Need-loop-again Inv-loop μ-loop
-loop-again c = c .before .before .settle .ensures .round (c .if1 .left)
+loop-again c = strode-here (c .settle .ensures)
+
+returns : tie.Need-returns Inv-loop μ-loop
+returns c = c .before .before .before .loop .inv .over (not-false _ (c .before .if1 .left))
 
 pub run-by-spec : {M : Type 1} → statement M
 run-by-spec =
@@ -61,6 +60,6 @@ run-by-spec =
     (λ c κs. search needs)
     loop-holds
     settle-requires
-    returns
     loop-less
-    loop-again)
+    loop-again
+    returns)

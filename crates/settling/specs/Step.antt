@@ -18,13 +18,13 @@ use Rattle.settling.specs.Front.{Front}
 abbrev pub outcomeOf : Rows → List ℤ → Task → Outcome
 outcomeOf R boxes a = searchOf R (keeps (a .toward) boxes) (a .n) (a .m) (a .t) (a .s)
 
--- the run goes on from these labels, with `count` nodes settled, to that outcome
+-- the rest of the run, from these labels with `count` nodes settled, gives that outcome
 abbrev pub Rest : Rows → List ℤ → Task → ℕ → Labels → Type 0
 Rest R boxes a count L =
     (fuel : ℕ) → fuel + count ≡ a .n → runOf R (keeps (a .toward) boxes) (a .n) (a .m) (a .t) fuel count L ≡ outcomeOf R boxes a
 
--- Where a run stands: `count` nodes are settled, these are the labels, and this is their tree.
-pub record Round (R : Rows) (boxes : List ℤ) (a : Task) (count : ℕ) (L : Labels) (tree : List ℕ) : Type 0 where
+-- A run stands here: `count` nodes are settled, these are the labels, this is their tree, and the run goes on to its outcome.
+pub record Stands (R : Rows) (boxes : List ℤ) (a : Task) (count : ℕ) (L : Labels) (tree : List ℕ) : Type 0 where
   pub posed : Posed a R boxes
   pub high : count ≤ a .n
   pub stage : Stage R (keeps (a .toward) boxes) (a .n) (a .m) (a .s) count L
@@ -35,4 +35,4 @@ pub record Round (R : Rows) (boxes : List ℤ) (a : Task) (count : ℕ) (L : Lab
 pub record Strode (R : Rows) (boxes : List ℤ) (a : Task) (end : ℕ) (r : Stride) (tree : List ℕ) : Type 0 where
   pub over : r .over ≡ true → record { labels = r .labels; count = r .count; found = r .found } ≡ outcomeOf R boxes a
   pub count : r .over ≡ false → r .count ≡ end
-  pub round : r .over ≡ false → Round R boxes a (r .count) (r .labels) tree
+  pub stands : r .over ≡ false → Stands R boxes a (r .count) (r .labels) tree
