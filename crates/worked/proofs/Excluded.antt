@@ -13,7 +13,8 @@ use Rattle.boxwork.proofs.TightLaws.{tight-unique}
 use Rattle.boxwork.proofs.SaysLaws.{update-unique}
 use Rattle.boxwork.proofs.Accepting.{build-accepts}
 use Rattle.worked.specs.Plans.{west, triangle, triangleBoxes, mendedBoxes}
-use Rattle.worked.specs.Table.{Case, Right, Each, no-line, line, table, table-right}
+use Rattle.worked.specs.Table.{Case, Right, Each, no-line, line, table}
+use Rattle.worked.proofs.TableRight.{table-right}
 
 -- the statement of a table's line, counted from 0
 abbrev Line : ℕ → List Case → Type 0

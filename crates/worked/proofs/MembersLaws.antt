@@ -12,12 +12,8 @@ use Rattle.settling.proofs.Choice.{cond-by}
 use Rattle.drawing.specs.Leads.{leadsTo}
 use Rattle.boxwork.proofs.TightLaws.{inS-range}
 use Rattle.boxwork.proofs.Meaning.{leads-inS, inS-leads}
-use Rattle.worked.specs.Computed.{membersFrom, membersOf}
-
--- v is one of a list's numbers
-abbrev pub Among : ℕ → List ℕ → Type 0
-Among v [] = ⊥
-Among v (u ∷ us) = (v ≡ u) ⊎ Among v us
+use Rattle.worked.proofs.Computed.{membersFrom, membersOf}
+use Rattle.worked.specs.Table.{Among}
 
 module _ (leads : ℕ → Bool) where
   members-in : (fuel t v : ℕ) → Among v (membersFrom leads fuel t) → (t ≤ v) × (v < t + fuel) × (leads v ≡ true)

@@ -10,7 +10,7 @@ use Rattle.settling.proofs.Choice.{cond-by}
 use Rattle.drawing.specs.declared.compare.Miss.{Miss}
 use Rattle.drawing.specs.declared.compare.Miss.the-variants.{Nowhere, First}
 use Rattle.drawing.specs.Missed.{IsFirst}
-use Rattle.worked.specs.Computed.{lowestNode, orArc, lowestArc}
+use Rattle.worked.proofs.Computed.{lowestNode, orArc, lowestArc}
 
 module _ (test : ℕ → ℕ → Bool) (n : ℕ) where
   -- what lowestNode finds among 1..k

@@ -25,12 +25,7 @@ use Rattle.drawing.specs.Heads.{headBox}
 use Rattle.drawing.specs.Grown.{grownBy}
 use Rattle.drawing.specs.Missed.{missesNode}
 use Rattle.boxwork.specs.Says.{reweighted}
-
--- a reply, with the route or weight row and the box row afterwards
-pub record Told : Type 0 where
-  pub reply : Reply
-  pub numbers : List ℕ
-  pub boxes : List ℤ
+use Rattle.worked.specs.Table.{Told}
 
 -- a refusal leaves the rows as they were, else `told` is told
 unfoldable pub orTold : Judged → List ℕ → List ℤ → Told → Told

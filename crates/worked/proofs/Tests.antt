@@ -10,7 +10,7 @@ use lib.IntN.{ℤ, pos, negsuc}
 use Rattle.rules.proofs.AndLaws.{and-true}
 use Rattle.walks.specs.Walk.{WalkBy, by-none, by-arc}
 use Rattle.walks.specs.Rows.{Rows, at, network}
-use Rattle.worked.specs.Computed.{Told}
+use Rattle.worked.specs.Table.{Told}
 
 -- ---- The same numbers, rows and replies
 

@@ -29,8 +29,9 @@ use Rattle.drawing.specs.Missed.{missesNode, IsFirst}
 use Rattle.drawing.proofs.DrawnLaws.{puts-box, drawn-none, drawn-next}
 use Rattle.boxwork.specs.Says.{BuildSays, CheckSays, UpdateSays, reweighted}
 use Rattle.boxwork.proofs.Meaning.{tight-made, updated-made, missed-first, missed-none}
-use Rattle.worked.specs.LowestLaws.{lowest-arc}
-use Rattle.worked.specs.Computed.{Told, orTold, answerOf, searchTold, boxedTold, heldBy, drawnTo, tightOf, mendedOf, buildTold, updateTold, lowestArc, missReply, checkTold}
+use Rattle.worked.proofs.LowestLaws.{lowest-arc}
+use Rattle.worked.proofs.Computed.{orTold, answerOf, searchTold, boxedTold, heldBy, drawnTo, tightOf, mendedOf, buildTold, updateTold, lowestArc, missReply, checkTold}
+use Rattle.worked.specs.Table.{Told}
 
 -- ---- Searches
 
