@@ -26,7 +26,7 @@ returns-2 c =
 list-with-places-requires : tie.Need-list-with-places-requires
 list-with-places-requires c κs =
     let read = rw (c .before .before .before .before .before .reply .given .1) at (c .before .before .before .before .before .before .before .before .before .before .read-gr .ensures) in
-    (read-gr-limits _ _ _ _ _ _ _ _ _ read .arcs, c .before .before .before .before .before .before .before .before .before .before .before .before .before .before .before .before .before .before .before .before .pre .1)
+    (read-gr-limits _ _ _ _ _ _ _ _ _ read .arcs, search needs)
 
 returns-3 : tie.Need-returns-3
 returns-3 c =
