@@ -1,17 +1,16 @@
 // The route box at a terminal or on a pipe: one command a line, one line as its reply.
 mod answer;
-mod input;
 mod state;
 
 ghost use Prim.Native.Nat.{_<_};
 ghost use Rattle.lending.specs.Stores.{stores, Full};
 use crate::answer::answer;
-use crate::input::Input;
-use crate::input::read_line;
 use crate::state::start;
 use commands::rows::BYTES;
 use commands::rows::COUNTS;
 use commands::rows::NUMBERS;
+use hearing::Input;
+use hearing::read_line;
 use pages::PAGE;
 use printing::out;
 

@@ -14,6 +14,12 @@ pub record Puts (text : List ℕ) (at : ℕ) (before : List ℕ) (r : ℕ) (afte
   pub end : r ≡ at + length text
   pub page : after ≡ written before at text
 
+-- a text that is said stands on the page up to the place `end`
+pub record Printed (Says : List ℕ → Type 0) (page : List ℕ) (end : ℕ) (page′ : List ℕ) : Type 0 where
+  pub text : List ℕ
+  pub says : Says text
+  pub puts : Puts text 0 page end page′
+
 -- a reply that is said stands on the page up to the place `end`, whatever was held (the contents of the files that were asked for)
 pub record Replied {A : Type 0} (Says : A → List ℕ → Type 0) (page : List ℕ) (end : ℕ) (page′ : List ℕ) : Type 0 where
   pub held : A

@@ -19,7 +19,7 @@ use Rattle.settling.specs.Run.{afterPick, runOf}
 use Rattle.settling.specs.Trace.{fits, firstOf, arcFits, intoOf, afterInto, traceOf}
 use Rattle.settling.specs.LengthsTo.{onShortest}
 use Rattle.judging.specs.Order.{networkJudged, placedJudged, shapedJudged, searchJudged, boxedJudged, buildJudged, checkJudged, updateJudged}
-use Rattle.judging.proofs.FineLaws.{network-fine}
+use Rattle.judging.proofs.StageLaws.{network-fine}
 use Rattle.drawing.specs.Leads.{leadsAt, lengthsTo}
 use Rattle.drawing.specs.Grown.{grownIf, grownBy}
 use Rattle.drawing.specs.Missed.{missesNode}

@@ -5,7 +5,7 @@ use native.Mathlib.Omega.{arith}
 use lib.ListN.{length}
 use borrow.Author.Needs.{needs}
 use Rattle.lending.specs.Stores.{stores, Full}
-use Rattle.console.specs.Input.{Ahead}
+use Rattle.hearing.specs.Hearing.{Ahead}
 use Rattle.console.proofs.converse.Statement.{statement}
 use Rattle.console.proofs.converse.Tie as tie
 

@@ -1,10 +1,10 @@
--- `console::input::hear` meets its contract. Assumes nothing.
+-- `hearing::hear` meets its contract. Assumes nothing.
 use mathlib.Core.Path.{sym}
 use native.Mathlib.Omega.{arith}
 use lib.Seq.{set-out}
 use borrow.Author.Needs.{needs}
-use Rattle.console.proofs.input.hear.Statement.{statement}
-use Rattle.console.proofs.input.hear.Tie as tie
+use Rattle.hearing.proofs.hear.Statement.{statement}
+use Rattle.hearing.proofs.hear.Tie as tie
 
 returns-2 : tie.Need-returns-2
 returns-2 c = (omega arith, sym (set-out _ _ _ (c .if1 .left)))

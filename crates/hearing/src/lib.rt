@@ -2,7 +2,7 @@
 ghost use mathlib.Core.Path.{_≡_};
 ghost use Prim.Native.Nat.{_+_, min};
 ghost use lib.ListN.{length, set};
-ghost use Rattle.console.specs.Input.{Ahead, Following, HeardLine};
+ghost use Rattle.hearing.specs.Hearing.{Ahead, aheadOf, HeardLine, Follows};
 use libc::STDIN_FILENO;
 
 // Where the next byte stands in the chunk that was read last, and where that ends.
@@ -28,7 +28,7 @@ pub struct Heard {
 // The next byte. Only where the chunk is used up is more read: a line is then answered as soon as it is there.
 fn next_byte(chunk: &mut [u8; 4096], input: Input) -> Next
     requires { ⌜ Ahead input ⌝ }
-    ensures { λ r. ⌜ Following (now (chunk .entry)) input (now (chunk .exit)) r ⌝ }
+    ensures { λ r. ⌜ Follows (now (chunk .entry)) input (now (chunk .exit)) r ⌝ }
 {
     let at = input.at;
     let end = input.end;
@@ -57,7 +57,7 @@ fn hear(line: &mut [u8], at: usize, byte: u8) -> usize
 // Reads up to the next byte 10 or the end of the input; what is beyond the line's room is passed over.
 pub fn read_line(line: &mut [u8], chunk: &mut [u8; 4096], input: Input) -> Heard
     requires { ⌜ Ahead input ⌝ }
-    ensures { λ r. ⌜ HeardLine (now (line .entry)) (now (line .exit)) (r .length) × Ahead (r .input) ⌝ }
+    ensures { λ r. ⌜ HeardLine (aheadOf (now (chunk .entry)) input) (now (line .entry)) (now (line .exit)) (r .length) (r .ended) (aheadOf (now (chunk .exit)) (r .input)) × Ahead (r .input) ⌝ }
 {
     let mut length = 0;
     let mut ahead = input;
