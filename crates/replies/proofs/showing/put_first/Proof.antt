@@ -25,7 +25,7 @@ put-counts-requires c κs =
     let s = c .before .before .before .before .before .stretch in
     let a = c .before .before .before .before .before .before .before .before .args in
     let n = length-take-le (a .k) (c .before .before .counts-of .result .now) (some-counts (c .before .before)) in
-    let h = few _ (a .row) (s .ensures .0) (s .ensures .1) (a .lent) (stores (a .counts .now) (a .numbers .now) (a .bytes .now)) (c .before .before .before .before .before .before .before .before .pre .2) (a .k) (c .before .before .before .before .before .before .before .before .pre .1) in
+    let h = few _ (a .row) (s .ensures .0) (s .ensures .1) (a .lent) (stores (a .counts .now) (a .numbers .now) (a .bytes .now)) (c .before .before .before .before .before .before .before .before .pre .2) Counts (c .before .before .before .enum-told .given .1) (a .k) (c .before .before .before .before .before .before .before .before .pre .1) in
     (c .before .before .before .before .before .before .before .before .pre .0, omega (arith, n, h))
 
 returns : tie.Need-returns
@@ -48,7 +48,7 @@ put-numbers-requires c κs =
     let s = c .before .before .before .before .before .stretch in
     let a = c .before .before .before .before .before .before .before .before .args in
     let n = length-take-le (a .k) (c .before .before .numbers-of .result .now) (some-numbers (c .before .before)) in
-    let h = few _ (a .row) (s .ensures .0) (s .ensures .1) (a .lent) (stores (a .counts .now) (a .numbers .now) (a .bytes .now)) (c .before .before .before .before .before .before .before .before .pre .2) (a .k) (c .before .before .before .before .before .before .before .before .pre .1) in
+    let h = few _ (a .row) (s .ensures .0) (s .ensures .1) (a .lent) (stores (a .counts .now) (a .numbers .now) (a .bytes .now)) (c .before .before .before .before .before .before .before .before .pre .2) Numbers (c .before .before .before .enum-told2 .given .1) (a .k) (c .before .before .before .before .before .before .before .before .pre .1) in
     (c .before .before .before .before .before .before .before .before .pre .0, omega (arith, n, h))
 
 returns-2 : tie.Need-returns-2
@@ -71,7 +71,7 @@ put-bytes-requires c κs =
     let s = c .before .before .before .before .before .stretch in
     let a = c .before .before .before .before .before .before .before .before .args in
     let n = length-take-le (a .k) (c .before .before .bytes-of .result .now) (some-bytes (c .before .before)) in
-    let h = few _ (a .row) (s .ensures .0) (s .ensures .1) (a .lent) (stores (a .counts .now) (a .numbers .now) (a .bytes .now)) (c .before .before .before .before .before .before .before .before .pre .2) (a .k) (c .before .before .before .before .before .before .before .before .pre .1) in
+    let h = few _ (a .row) (s .ensures .0) (s .ensures .1) (a .lent) (stores (a .counts .now) (a .numbers .now) (a .bytes .now)) (c .before .before .before .before .before .before .before .before .pre .2) Bytes (c .before .before .before .enum-told3 .given .1) (a .k) (c .before .before .before .before .before .before .before .before .pre .1) in
     (c .before .before .before .before .before .before .before .before .pre .0, omega (arith, n, h))
 
 returns-3 : tie.Need-returns-3

@@ -1,35 +1,38 @@
--- The names of commands. Assumes nothing: these are definitions.
+-- The commands by their first words. Assumes nothing: these are definitions.
 use Prim.Native.Nat.{ℕ}
-use Prim.Native.String.{String}
-use mathlib.Core.List.{List}
-use mathlib.Core.Bool.{Bool, true, false, cond, _||_}
+use mathlib.Core.List.{List, [], _∷_}
+use mathlib.Core.Bool.{Bool, true, _||_}
 use lib.Dec.{eqb, leb}
+use lib.ListN.{getD}
 use Rattle.scan.specs.Ascii.{bytes}
-use Rattle.scan.specs.Pieces.{sameBytes}
+use Rattle.commands.specs.Words.{wordsOf, placeIn}
 use Rattle.commands.specs.declared.verbs.Verb.{Verb}
 use Rattle.commands.specs.declared.verbs.Verb.the-variants as verb
 
-infixl 20 _is_
-abbrev pub _is_ : List ℕ → String → Bool
-word is name = sameBytes word (bytes name)
+abbrev pub verbNames : List (List ℕ)
+verbNames = wordsOf (bytes "n m lend show gr co build check update search boxed fresh help")
+
+-- the commands in the order of their names
+abbrev pub allVerbs : List Verb
+allVerbs =
+    verb.N
+    ∷ verb.M
+    ∷ verb.Lend
+    ∷ verb.Show
+    ∷ verb.Gr
+    ∷ verb.Co
+    ∷ verb.Build
+    ∷ verb.Check
+    ∷ verb.Update
+    ∷ verb.Search
+    ∷ verb.Boxed
+    ∷ verb.Fresh
+    ∷ verb.Help
+    ∷ []
 
 -- the command that a line's first word names
 unfoldable pub verbOf : List ℕ → Verb
-verbOf word =
-    cond (word is "n") verb.N
-    (cond (word is "m") verb.M
-    (cond (word is "lend") verb.Lend
-    (cond (word is "show") verb.Show
-    (cond (word is "gr") verb.Gr
-    (cond (word is "co") verb.Co
-    (cond (word is "build") verb.Build
-    (cond (word is "check") verb.Check
-    (cond (word is "update") verb.Update
-    (cond (word is "search") verb.Search
-    (cond (word is "boxed") verb.Boxed
-    (cond (word is "fresh") verb.Fresh
-    (cond (word is "help") verb.Help
-    verb.NoVerb))))))))))))
+verbOf word = getD allVerbs (placeIn word verbNames) verb.NoVerb
 
 -- whether a line may have so many words, the command included; what is no command is told as such, whatever follows
 abbrev pub takesWords : Verb → ℕ → Bool
