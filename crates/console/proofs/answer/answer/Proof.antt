@@ -15,7 +15,8 @@ returns c =
 
 returns-2 : tie.Need-returns-2
 returns-2 c =
-    (answered-as (c .before .before .before .before .before .before .before .if1 .left) (c .before .before .before .before .before .before .asked .ensures) (c .before .before .before .before .before .heard .ensures) (c .before .before .before .command .given .1) (record { held = unread; reply = _; says = Answers.faulty; puts = c .put-fault .ensures .0 }), omega arith)
+    let h = c .before .before .before .before .before in
+    (answered-as (h .before .before .if1 .left) (h .before .asked .ensures) (h .heard .ensures) (c .before .before .before .command .given .1) (record { held = unread; reply = _; says = Answers.faulty; puts = c .put-fault .ensures .0 }), omega arith)
 
 lend-requires : tie.Need-lend-requires
 lend-requires c κs =
@@ -24,16 +25,19 @@ lend-requires c κs =
 
 returns-3 : tie.Need-returns-3
 returns-3 c =
-    (answered-as (c .before .before .before .before .before .before .before .before .before .before .before .before .before .before .before .before .if1 .left) (c .before .before .before .before .before .before .before .before .before .before .before .before .before .before .before .asked .ensures) (c .before .before .before .before .before .before .before .before .before .before .before .before .before .before .heard .ensures) (c .before .before .before .before .before .before .before .before .before .before .before .before .command2 .given .1) (record { held = unread; reply = okLine; says = lends-as (c .before .before .before .before .before .before .before .lend .ensures); puts = c .put-ok .ensures .0 }), omega arith)
+    let h = c .before .before .before .before .before .before .before .before .before .before .before .before .before .before in
+    (answered-as (h .before .before .if1 .left) (h .before .asked .ensures) (h .heard .ensures) (c .before .before .before .before .before .before .before .before .before .before .before .before .command2 .given .1) (record { held = unread; reply = okLine; says = lends-as (c .before .before .before .before .before .before .before .lend .ensures); puts = c .put-ok .ensures .0 }), omega arith)
 
 returns-4 : tie.Need-returns-4
 returns-4 c =
-    (answered-as (c .before .before .before .before .before .before .before .before .before .before .before .before .before .before .before .before .before .before .if1 .left) (c .before .before .before .before .before .before .before .before .before .before .before .before .before .before .before .before .before .asked .ensures) (c .before .before .before .before .before .before .before .before .before .before .before .before .before .before .before .before .heard .ensures) (c .before .before .before .before .before .before .before .before .before .before .before .before .before .before .enum-told .given .1) (record { held = unread; reply = okLine; says = fresh-as (c .before .before .before .before .before .before .before .before .before .before .clear-rows .ensures) (c .before .before .before .before .start .ensures); puts = c .put-ok2 .ensures .0 }), omega arith)
+    let h = c .before .before .before .before .before .before .before .before .before .before .before .before .before .before .before .before in
+    (answered-as (h .before .before .if1 .left) (h .before .asked .ensures) (h .heard .ensures) (c .before .before .before .before .before .before .before .before .before .before .before .before .before .before .enum-told .given .1) (record { held = unread; reply = okLine; says = fresh-as (c .before .before .before .before .before .before .before .before .before .before .clear-rows .ensures) (c .before .before .before .before .start .ensures); puts = c .put-ok2 .ensures .0 }), omega arith)
 
 returns-5 : tie.Need-returns-5
 returns-5 c =
     let met = c .before .before .before .before .before .before .obey .ensures .0 in
-    (answered-as (c .before .before .before .before .before .before .before .before .before .before .before .before .before .before .before .before .if1 .left) (c .before .before .before .before .before .before .before .before .before .before .before .before .before .before .before .asked .ensures) (c .before .before .before .before .before .before .before .before .before .before .before .before .before .before .heard .ensures) (c .before .before .before .before .before .before .before .before .before .before .before .before .command3 .given .1) (record { held = met .held; reply = met .reply; says = Answers.meets (met .says); puts = met .puts }), omega arith)
+    let h = c .before .before .before .before .before .before .before .before .before .before .before .before .before .before in
+    (answered-as (h .before .before .if1 .left) (h .before .asked .ensures) (h .heard .ensures) (c .before .before .before .before .before .before .before .before .before .before .before .before .command3 .given .1) (record { held = met .held; reply = met .reply; says = Answers.meets (met .says); puts = met .puts }), omega arith)
 
 pub answer-spec : {M : Type 1} → statement M
 answer-spec =
