@@ -17,8 +17,7 @@ use Rattle.calls.specs.Texts.{ReadsGraph, ReadsPlaces}
 use Rattle.calls.specs.declared.Sizes.{Sizes}
 use Rattle.requests.specs.Desk.{Desk, row, put, withSizes, lentRows, givenBack}
 
--- a file that is asked for holds `held`
-
+-- a request's reply, and the desk that it leaves; a file that is asked for holds `held`
 pub data Meets (held : Held) (d : Desk) : Request → List ℕ → Desk → Type 0 where
   set-n : {v : ℕ} → Meets held d (request.SetN v) okLine (withSizes d (record { n = v; m = d .sizes .m }))
   set-m : {v : ℕ} → Meets held d (request.SetM v) okLine (withSizes d (record { n = d .sizes .n; m = v }))
@@ -43,6 +42,6 @@ AsksNoFile request.ReadCo = ⊥
 AsksNoFile (request.Call c) = Unit
 AsksNoFile request.Help = Unit
 
--- a request is met, whatever a file holds, and its reply stands on the page up to the place `end`
+-- a request is met, for some contents of a file that it asks for, and its reply stands on the page up to the place `end`
 abbrev pub Obeyed : Desk → Request → Desk → List ℕ → ℕ → List ℕ → Type 0
 Obeyed before asks after page end page′ = Replied (λ (held : Held) reply. Meets held before asks reply after) page end page′
