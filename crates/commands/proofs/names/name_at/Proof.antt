@@ -18,29 +18,35 @@ Inv-loop names place k₀ at₀ k at = (at ≤ length names + 1) × (word place 
 abbrev μ-loop : tie.MeasureT-loop
 μ-loop names place k₀ at₀ k at = length names + 1 - at
 
+-- the name ends within the text
+ahead : (c : tie.After-first-at Inv-loop μ-loop) → c .before .before .before .loop .at + c .first-at .result ≤ length (c .before .before .before .before .before .args .names .now)
+ahead c = let l = rest-long (c .before .before .before .before .before .args .names .now) _ (c .before .before .before .loop .at) (c .before .rest .ensures) in omega (arith, l, c .first-at .ensures .1)
+
 returns : tie.Need-returns Inv-loop μ-loop
 returns c =
-    let l = rest-long (c .before .before .before .before .before .before .before .args .names .now) _ (c .before .before .before .before .before .loop .at) (c .before .before .before .rest .ensures) in
-    let here = name-here (c .before .before .before .before .before .before .before .args .names .now) _ (c .before .before .before .before .before .loop .at) _ (c .before .before .before .rest .ensures) (c .before .before .first-at .ensures .0) (c .before .before .before .before .loop-test .taken) _ (c .before .if1 .taken) in
-    let n = ap (length {A = ℕ}) (c .front .ensures) ∙ length-take (c .before .before .first-at .result) (c .before .before .before .rest .result .now) in
-    (c .front .ensures ∙ sym (c .before .before .before .before .before .loop .inv .1 ∙ here), omega (arith, n, l))
+    let f = c .before .before in
+    let t = f .before .before in
+    let l = ahead f in
+    let here = name-here _ _ (t .before .loop .at) _ (f .before .rest .ensures) (f .first-at .ensures .0) (t .loop-test .taken) _ (c .before .if1 .taken) in
+    let n = ap (length {A = ℕ}) (c .front .ensures) ∙ length-take (f .first-at .result) (f .before .rest .result .now) in
+    (c .front .ensures ∙ sym (t .before .loop .inv .1 ∙ here), omega (arith, n, l))
 
 add-at : tie.Need-add-at Inv-loop μ-loop
-add-at c =
-    let l = rest-long (c .before .before .before .before .before .before .args .names .now) _ (c .before .before .before .before .loop .at) (c .before .before .rest .ensures) in omega arith
+add-at c = let l = ahead (c .before) in omega arith
 
 add-at-2 : tie.Need-add-at-2 Inv-loop μ-loop
-add-at-2 c =
-    let l = rest-long (c .before .before .before .before .before .before .args .names .now) _ (c .before .before .before .before .loop .at) (c .before .before .rest .ensures) in omega arith
+add-at-2 c = let l = ahead (c .before) in omega arith
 
 loop-less : tie.Need-loop-less Inv-loop μ-loop
-loop-less c =
-    let l = rest-long (c .before .before .before .before .before .before .args .names .now) _ (c .before .before .before .before .loop .at) (c .before .before .rest .ensures) in omega arith
+loop-less c = let l = ahead (c .before) in omega arith
 
 loop-again : tie.Need-loop-again Inv-loop μ-loop
 loop-again c =
-    let l = rest-long (c .before .before .before .before .before .before .args .names .now) _ (c .before .before .before .before .loop .at) (c .before .before .rest .ensures) in
-    (omega arith, c .before .before .before .before .loop .inv .1 ∙ name-on (c .before .before .before .before .before .before .args .names .now) _ (c .before .before .before .before .loop .at) _ (c .before .before .rest .ensures) (c .before .first-at .ensures .0) (c .before .before .before .loop-test .taken) (c .before .before .before .before .loop .k) (c .if1 .left))
+    let l = ahead (c .before) in
+    let f = c .before in
+    let t = f .before .before in
+    let on = name-on _ _ (t .before .loop .at) _ (f .before .rest .ensures) (f .first-at .ensures .0) (t .loop-test .taken) (t .before .loop .k) (c .if1 .left) in
+    (omega arith, t .before .loop .inv .1 ∙ on)
 
 returns-2 : tie.Need-returns-2 Inv-loop μ-loop
 returns-2 c =

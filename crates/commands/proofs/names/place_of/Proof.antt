@@ -17,32 +17,35 @@ Inv-loop name names place₀ at₀ place at =
 abbrev μ-loop : tie.MeasureT-loop
 μ-loop name names place₀ at₀ place at = length names + 1 - at
 
+-- the name ends within the text
+ahead : (c : tie.After-first-at Inv-loop μ-loop) → c .before .before .before .loop .at + c .first-at .result ≤ length (c .before .before .before .before .before .before .args .names .now)
+ahead c = let l = rest-long (c .before .before .before .before .before .before .args .names .now) _ (c .before .before .before .loop .at) (c .before .rest .ensures) in omega (arith, l, c .first-at .ensures .1)
+
 returns : tie.Need-returns Inv-loop μ-loop
 returns c =
-    let here = place-here (c .before .before .before .before .before .before .before .before .before .args .names .now) _ (c .before .before .before .before .before .before .loop .at) _ (c .before .before .before .before .rest .ensures) (c .before .before .before .first-at .ensures .0) (c .before .before .before .before .before .loop-test .taken) _ _ (c .before .before .front .ensures) (rw (c .before .same-bytes .ensures) at (c .if1 .taken)) in
-    omega (arith, here, c .before .before .before .before .before .before .loop .inv .2)
-
-add-place : tie.Need-add-place Inv-loop μ-loop
-add-place c =
-    let l = rest-long (c .before .before .before .before .before .before .before .before .before .args .names .now) _ (c .before .before .before .before .before .before .loop .at) (c .before .before .before .before .rest .ensures) in omega arith
+    let f = c .before .before .before in
+    let t = f .before .before in
+    let same = rw (c .before .same-bytes .ensures) at (c .if1 .taken) in
+    let here = place-here _ _ (t .before .loop .at) _ (f .before .rest .ensures) (f .first-at .ensures .0) (t .loop-test .taken) _ _ (c .before .before .front .ensures) same in
+    omega (arith, here, t .before .loop .inv .2)
 
 add-at : tie.Need-add-at Inv-loop μ-loop
-add-at c =
-    let l = rest-long (c .before .before .before .before .before .before .before .before .before .args .names .now) _ (c .before .before .before .before .before .before .loop .at) (c .before .before .before .before .rest .ensures) in omega arith
+add-at c = let l = ahead (c .before .before .before) in omega arith
 
 add-at-2 : tie.Need-add-at-2 Inv-loop μ-loop
-add-at-2 c =
-    let l = rest-long (c .before .before .before .before .before .before .before .before .before .args .names .now) _ (c .before .before .before .before .before .before .loop .at) (c .before .before .before .before .rest .ensures) in omega arith
+add-at-2 c = let l = ahead (c .before .before .before) in omega arith
 
 loop-less : tie.Need-loop-less Inv-loop μ-loop
-loop-less c =
-    let l = rest-long (c .before .before .before .before .before .before .before .before .before .args .names .now) _ (c .before .before .before .before .before .before .loop .at) (c .before .before .before .before .rest .ensures) in omega arith
+loop-less c = let l = ahead (c .before .before .before) in omega arith
 
 loop-again : tie.Need-loop-again Inv-loop μ-loop
 loop-again c =
-    let l = rest-long (c .before .before .before .before .before .before .before .before .before .args .names .now) _ (c .before .before .before .before .before .before .loop .at) (c .before .before .before .before .rest .ensures) in
-    let on = place-on (c .before .before .before .before .before .before .before .before .before .args .names .now) _ (c .before .before .before .before .before .before .loop .at) _ (c .before .before .before .before .rest .ensures) (c .before .before .before .first-at .ensures .0) (c .before .before .before .before .before .loop-test .taken) _ _ (c .before .before .front .ensures) (rw (c .before .same-bytes .ensures) at (c .if1 .left)) in
-    (omega arith, omega arith, omega (arith, on, c .before .before .before .before .before .before .loop .inv .2))
+    let l = ahead (c .before .before .before) in
+    let f = c .before .before .before in
+    let t = f .before .before in
+    let same = rw (c .before .same-bytes .ensures) at (c .if1 .left) in
+    let on = place-on _ _ (t .before .loop .at) _ (f .before .rest .ensures) (f .first-at .ensures .0) (t .loop-test .taken) _ _ (c .before .before .front .ensures) same in
+    (omega arith, omega arith, omega (arith, on, t .before .loop .inv .2))
 
 returns-2 : tie.Need-returns-2 Inv-loop μ-loop
 returns-2 c =
@@ -57,7 +60,7 @@ place-of-spec =
     μ-loop
     (λ c. search needs) (λ c κs. search needs) (λ c κs. search needs) (λ c κs. search needs) (λ c κs. search needs)
     returns
-    add-place
+    (λ c. search needs)
     add-at
     add-at-2
     loop-less
