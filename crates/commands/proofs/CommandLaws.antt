@@ -10,7 +10,7 @@ use borrow.Author.Tests.{le-leb, lt-leb}
 use Rattle.scan.specs.Pieces.{firstField}
 use Rattle.scan.proofs.PieceLaws.{pieces-step}
 use Rattle.commands.specs.Words.{wordsOf, word, afterWord}
-use Rattle.commands.specs.Names.{verbOf, takesWords}
+use Rattle.commands.specs.Verbs.{verbOf, takesWords}
 use Rattle.commands.specs.Rows.{rowOf, stretchOf}
 use Rattle.commands.specs.Commands.{lineJudged, number, valuesJudged, withNumber, withPair, withRow, onceGood, lendAsked, showAsked, asked, commandOf}
 use Rattle.commands.specs.declared.Fault.{Fault}

@@ -8,7 +8,7 @@ use lib.ListN.{length, drop}
 use Rattle.scan.specs.Pieces.{fieldsOf}
 use Rattle.scan.specs.Numbers.{naturalOf, integerOf}
 use Rattle.commands.specs.Words.{wordsOf, word, holdsByte, noneEmpty}
-use Rattle.commands.specs.Names.{verbOf, takesWords}
+use Rattle.commands.specs.Verbs.{verbOf, takesWords}
 use Rattle.commands.specs.Rows.{rowOf, placesOf, kindOf}
 use Rattle.commands.specs.Numbers.{countOf, byteOf, signedOf}
 use Rattle.commands.specs.declared.Fault.the-variants.{EmptyLine, ControlByte, EmptyWord, NoCommand, WordCount, NoRow, LongRow}

@@ -1,10 +1,10 @@
--- The rows of the console: what each holds, where it stands, and its name. Assumes nothing: these are definitions.
-use Prim.Native.Nat.{ℕ, _+_, _≤_, _<_}
-use mathlib.Core.List.{List, [], _∷_}
-use mathlib.Core.Bool.{cond}
+-- The rows of the console: their names, what each holds, and where it stands. Assumes nothing: these are definitions.
+use Prim.Native.Nat.{ℕ, _+_, _*_, _≤_, _<_}
+use mathlib.Core.List.{List, [], _∷_, map}
 use lib.IntN.{ℤ, pos}
+use lib.ListN.{getD}
 use Rattle.scan.specs.Ascii.{bytes}
-use Rattle.scan.specs.Pieces.{sameBytes}
+use Rattle.commands.specs.Words.{wordsOf, word, placeIn}
 use Rattle.commands.specs.declared.rows.Row.{Row}
 use Rattle.commands.specs.declared.rows.Row.the-variants as row
 use Rattle.commands.specs.declared.rows.RowName.{RowName}
@@ -31,30 +31,24 @@ sizeOf Numbers = 40960
 sizeOf Bytes = 49152
 
 -- a kind, a row's number, the first of its places in the store of that kind, and how many they are
-abbrev pub stretch : Kind → ℕ → ℕ → ℕ → Stretch
-stretch k n s p = record { kind = k; number = n; start = s; places = p }
+abbrev pub stretchFrom : Kind → ℕ → ℕ → ℕ → Stretch
+stretchFrom k n s p = record { kind = k; number = n; start = s; places = p }
 
 -- the table of the rows
 abbrev pub stretchOf : Row → Stretch
-stretchOf row.Tails = stretch Counts 0 0 4096
-stretchOf row.Heads = stretch Counts 1 4096 4096
-stretchOf row.Weights = stretch Counts 2 8192 4096
-stretchOf row.X = stretch Numbers 3 0 1024
-stretchOf row.Y = stretch Numbers 4 1024 1024
-stretchOf row.Boxes = stretch Numbers 5 2048 16384
-stretchOf row.Route = stretch Counts 6 12288 1024
-
-abbrev pub nameOf : Row → List ℕ
-nameOf row.Tails = bytes "tails"
-nameOf row.Heads = bytes "heads"
-nameOf row.Weights = bytes "weights"
-nameOf row.X = bytes "x"
-nameOf row.Y = bytes "y"
-nameOf row.Boxes = bytes "boxes"
-nameOf row.Route = bytes "route"
+stretchOf row.Tails = stretchFrom Counts 0 0 4096
+stretchOf row.Heads = stretchFrom Counts 1 4096 4096
+stretchOf row.Weights = stretchFrom Counts 2 8192 4096
+stretchOf row.X = stretchFrom Numbers 3 0 1024
+stretchOf row.Y = stretchFrom Numbers 4 1024 1024
+stretchOf row.Boxes = stretchFrom Numbers 5 2048 16384
+stretchOf row.Route = stretchFrom Counts 6 12288 1024
 
 abbrev pub allRows : List Row
 allRows = row.Tails ∷ row.Heads ∷ row.Weights ∷ row.X ∷ row.Y ∷ row.Boxes ∷ row.Route ∷ []
+
+abbrev pub rowNames : List (List ℕ)
+rowNames = wordsOf (bytes "tails heads weights x y boxes route")
 
 -- ----
 
@@ -64,16 +58,22 @@ kindOf r = stretchOf r .kind
 abbrev pub placesOf : Row → ℕ
 placesOf r = stretchOf r .places
 
--- the stretch lies in the store, and it is not too long for a page
+-- the name in the place of the row's number
+abbrev pub nameOf : Row → List ℕ
+nameOf r = word (stretchOf r .number) rowNames
+
+-- the row that a word names
+unfoldable pub rowOf : List ℕ → RowName
+rowOf w = getD (map Known allRows) (placeIn w rowNames) Unknown
+
+-- how many bytes of a page a value takes at most, with the space before it
+abbrev pub widthOf : Kind → ℕ
+widthOf Counts = 22
+widthOf Numbers = 22
+widthOf Bytes = 4
+
+-- the stretch lies in the store, and its values have room on a page
 pub record Lies (s : Stretch) : Type 0 where
   pub number : s .number < 16
   pub within : s .start + s .places ≤ sizeOf (s .kind)
-  pub short : s .places ≤ 16384
-
--- the row that a word names
-unfoldable pub named : List ℕ → List Row → RowName
-named word [] = Unknown
-named word (r ∷ more) = cond (sameBytes word (nameOf r)) (Known r) (named word more)
-
-abbrev pub rowOf : List ℕ → RowName
-rowOf word = named word allRows
+  pub short : s .places * widthOf (s .kind) ≤ 360448

@@ -1,6 +1,7 @@
 // The console's commands: what a line of words asks for, or the first fault of it.
 pub mod arguments;
 pub mod faults;
+pub mod names;
 pub mod numbers;
 pub mod rows;
 pub mod verbs;

@@ -1,10 +1,7 @@
-// The rows of the console: the table of them all, and their names.
+// The rows of the console: their names, and the table of them all.
 ghost use mathlib.Core.Path.{_≡_};
-ghost use mathlib.Core.Bool.{cond};
-ghost use Rattle.scan.specs.Pieces.{sameBytes};
-ghost use Rattle.commands.specs.Rows.{stretchOf, Lies, rowOf};
-ghost use Rattle.commands.specs.declared.rows.RowName.the-variants.{Known};
-use scan::pieces::same_bytes;
+ghost use Rattle.commands.specs.Rows.{stretchFrom, stretchOf, Lies, rowOf};
+use crate::names::place_of;
 
 pub enum Row {
     Tails,
@@ -45,6 +42,17 @@ pub struct Stretch {
     pub places: usize,
 }
 
+fn stretch_from(kind: Kind, number: usize, start: usize, places: usize) -> Stretch
+    ensures { λ r. ⌜ r ≡ stretchFrom kind number start places ⌝ }
+{
+    Stretch {
+        kind,
+        number,
+        start,
+        places,
+    }
+}
+
 impl Row {
     // The table of the rows.
     pub fn stretch(self) -> Stretch
@@ -52,72 +60,32 @@ impl Row {
         ensures { λ r. ⌜ Lies r ⌝ }
     {
         match self {
-            Row::Tails => Stretch {
-                kind: Kind::Counts,
-                number: 0,
-                start: 0,
-                places: 4096,
-            },
-            Row::Heads => Stretch {
-                kind: Kind::Counts,
-                number: 1,
-                start: 4096,
-                places: 4096,
-            },
-            Row::Weights => Stretch {
-                kind: Kind::Counts,
-                number: 2,
-                start: 8192,
-                places: 4096,
-            },
-            Row::X => Stretch {
-                kind: Kind::Numbers,
-                number: 3,
-                start: 0,
-                places: 1024,
-            },
-            Row::Y => Stretch {
-                kind: Kind::Numbers,
-                number: 4,
-                start: 1024,
-                places: 1024,
-            },
-            Row::Boxes => Stretch {
-                kind: Kind::Numbers,
-                number: 5,
-                start: 2048,
-                places: 16384,
-            },
-            Row::Route => Stretch {
-                kind: Kind::Counts,
-                number: 6,
-                start: 12288,
-                places: 1024,
-            },
+            Row::Tails => stretch_from(Kind::Counts, 0, 0, 4096),
+            Row::Heads => stretch_from(Kind::Counts, 1, 4096, 4096),
+            Row::Weights => stretch_from(Kind::Counts, 2, 8192, 4096),
+            Row::X => stretch_from(Kind::Numbers, 3, 0, 1024),
+            Row::Y => stretch_from(Kind::Numbers, 4, 1024, 1024),
+            Row::Boxes => stretch_from(Kind::Numbers, 5, 2048, 16384),
+            Row::Route => stretch_from(Kind::Counts, 6, 12288, 1024),
         }
     }
 }
 
-// The row where the word is its name, or else the other.
-fn row_named(word: &[u8], name: &[u8], row: Row, other: RowName) -> RowName
-    ensures { λ r. ⌜ r ≡ cond (sameBytes (now (word .entry)) (now (name .entry))) (Known row) other ⌝ }
-{
-    if same_bytes(word, name) {
-        return RowName::Known(row);
-    }
-    other
-}
+// The names of the rows, in the order of their numbers.
+pub const ROW_NAMES: [u8; 35] = *b"tails heads weights x y boxes route";
 
 // The row that a word names.
 pub fn row_of(word: &[u8]) -> RowName
     ensures { λ r. ⌜ r ≡ rowOf (now (word .entry)) ⌝ }
 {
-    let mut row = RowName::Unknown;
-    row = row_named(word, b"route", Row::Route, row);
-    row = row_named(word, b"boxes", Row::Boxes, row);
-    row = row_named(word, b"y", Row::Y, row);
-    row = row_named(word, b"x", Row::X, row);
-    row = row_named(word, b"weights", Row::Weights, row);
-    row = row_named(word, b"heads", Row::Heads, row);
-    row_named(word, b"tails", Row::Tails, row)
+    match place_of(word, &ROW_NAMES) {
+        0 => RowName::Known(Row::Tails),
+        1 => RowName::Known(Row::Heads),
+        2 => RowName::Known(Row::Weights),
+        3 => RowName::Known(Row::X),
+        4 => RowName::Known(Row::Y),
+        5 => RowName::Known(Row::Boxes),
+        6 => RowName::Known(Row::Route),
+        _ => RowName::Unknown,
+    }
 }

@@ -4,17 +4,19 @@ use mathlib.Core.Path.{_≡_, sym, subst, _∙_}
 use mathlib.Core.List.{List}
 use mathlib.Core.Bool.{Bool, false}
 use lib.ListN.{length, take, drop}
-use Rattle.files.specs.File.{Held}
-use Rattle.pages.specs.Page.{Replied}
+use Rattle.files.specs.File.{Held, unread}
+use Rattle.pages.specs.Page.{Puts, Replied}
 use Rattle.commands.specs.Words.{wordsOf}
 use Rattle.commands.specs.declared.Command.{Command}
-use Rattle.commands.specs.declared.Command.the-variants.{Lend, Fresh}
+use Rattle.commands.specs.declared.Command.the-variants.{Lend, Fresh, Other}
+use Rattle.commands.specs.declared.Request.{Request}
 use Rattle.commands.specs.declared.rows.Row.{Row}
 use Rattle.lending.specs.Stores.{Stores, cleared, lentIn}
 use Rattle.lending.specs.Lending.{storedIn}
 use Rattle.lending.specs.declared.rows.Lent.{Lent}
 use Rattle.replies.specs.Replies.{okLine}
 use Rattle.requests.specs.Desk.{Desk}
+use Rattle.requests.specs.Requests.{Obeyed}
 use Rattle.console.specs.Input.{askedBy}
 use Rattle.console.specs.State.{fresh}
 use Rattle.console.specs.Answers.{Answers, Answered, isOver}
@@ -39,3 +41,13 @@ module _ {line words : List ℕ} {bytes : ℕ} {ended : Bool} {asks case : Comma
       let asked = subst (λ (c : Command). Answers (r .held) words before c (r .reply) after) (sym e ∙ p) (r .says) in
       let says = subst (λ (l : List ℕ). Answers (r .held) l before (askedBy line bytes) (r .reply) after) q asked in
       Answered.answered on (record { held = r .held; reply = r .reply; says = says; puts = r .puts })
+
+  -- a line that names no file
+  pub answered-by : {reply : List ℕ} → isOver ended bytes ≡ false → asks ≡ askedBy line bytes → words ≡ take bytes line → asks ≡ case
+      → Answers unread words before case reply after → Puts reply 0 page end page′
+      → Answered line bytes ended before page end after page′
+  answered-by {reply} on p q e says puts = answered-as on p q e (record { held = unread; reply = reply; says = says; puts = puts })
+
+pub obeyed-as : {words : List ℕ} {asks : Request} {before after : Desk} {page page′ : List ℕ} {end : ℕ} → Obeyed before asks after page end page′
+    → Replied (λ held reply. Answers held words before (Other asks) reply after) page end page′
+obeyed-as r = record { held = r .held; reply = r .reply; says = Answers.meets (r .says); puts = r .puts }

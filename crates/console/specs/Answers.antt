@@ -17,7 +17,7 @@ use Rattle.lending.specs.Stores.{cleared, allLent, lentIn}
 use Rattle.lending.specs.Lending.{storedIn}
 use Rattle.replies.specs.Replies.{okLine, faultLine}
 use Rattle.requests.specs.Desk.{Desk}
-use Rattle.requests.specs.Requests.{Meets}
+use Rattle.requests.specs.Requests.{AsksNoFile, Meets}
 use Rattle.console.specs.Input.{askedBy}
 
 -- the desk once the values that words spell are stored in a row, and as many of its places are lent
@@ -43,3 +43,10 @@ pub data Answered (line : List ℕ) (bytes : ℕ) (ended : Bool) (before : Desk)
       → isOver ended bytes ≡ false
       → Replied (λ held reply. Answers held (take bytes line) before (askedBy line bytes) reply after) page end page′
       → Answered line bytes ended before page end after page′
+
+-- a command that names no file: all but `gr` and `co`
+abbrev pub NamesNoFile : Command → Type 0
+NamesNoFile (command.Faulty fault) = Unit
+NamesNoFile (command.Lend r) = Unit
+NamesNoFile command.Fresh = Unit
+NamesNoFile (command.Other asks) = AsksNoFile asks

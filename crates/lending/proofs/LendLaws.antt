@@ -6,7 +6,7 @@ use mathlib.Core.Bool.{Bool, true, false, cond}
 use lib.Dec.{leb, leb→le}
 use lib.ListN.{length, drop}
 use lib.Seq.{drop-drop}
-use Rattle.commands.specs.Names.{verbOf, takesWords}
+use Rattle.commands.specs.Verbs.{verbOf, takesWords}
 use Rattle.commands.specs.Rows.{rowOf, placesOf, kindOf}
 use Rattle.commands.specs.Words.{wordsOf, word, afterWord}
 use Rattle.commands.specs.Commands.{number, valuesJudged, onceGood, withNumber, withPair, withRow, lendAsked, showAsked, asked, pairIn, lineJudged, commandOf}

@@ -1,5 +1,5 @@
 -- What is shown of a row, once it is known whether enough is lent. Assumes nothing.
-use Prim.Native.Nat.{ℕ, _≤_, _<_}
+use Prim.Native.Nat.{ℕ, _*_, _≤_, _<_}
 use mathlib.Core.Path.{_≡_, sym, ap, subst, _∙_}
 use native.Mathlib.Omega.{arith}
 use mathlib.Core.List.{List, _++_}
@@ -11,10 +11,11 @@ use Rattle.pages.specs.Spaced.{spaced}
 use Rattle.pages.proofs.PageLaws.{puts-case, puts-if, puts-else}
 use Rattle.commands.specs.declared.Fault.the-variants.{FewerLent}
 use Rattle.replies.specs.Replies.{faultLine}
-use Rattle.commands.specs.Rows.{Value, Lies, stretchOf, kindOf, nameOf}
+use Rattle.commands.specs.Rows.{Value, Lies, stretchOf, kindOf, widthOf, nameOf}
 use Rattle.commands.specs.declared.Shown.{Shown}
 use Rattle.commands.specs.declared.rows.Row.{Row}
 use Rattle.commands.specs.declared.rows.Kind.{Kind}
+use Rattle.commands.specs.declared.rows.Kind.the-variants.{Counts, Numbers, Bytes}
 use Rattle.commands.specs.declared.rows.Stretch.{Stretch}
 use Rattle.lending.specs.Stores.{Stores, Full, storeOf, lentAt, partAt, rowOn}
 use Rattle.lending.specs.declared.rows.Lent.{Lent}
@@ -32,12 +33,17 @@ module _ {A : Type 0} (text : A → List ℕ) (name : List ℕ) (row : List A) {
 
 -- a row that was looked up in the table, in stores that are full
 module _ (s : Stretch) (r : Row) (e : s ≡ stretchOf r) (l : Lies s) (lent : Lent) (all : Stores) (full : Full all) where
-  -- so many values are lent, and they are not too many for a page
-  pub few : (k : ℕ) → k ≤ lentAt lent (stretchOf r) → k ≤ 16384
-  few k h = let q = ap (λ (t : Stretch). lentAt lent t) e in omega (arith, l .short, q)
-
   pub lent-there : (many k : ℕ) → many ≡ lentAt lent s → k ≤ many → k ≤ lentAt lent (stretchOf r)
   lent-there many k p h = let q = ap (λ (t : Stretch). lentAt lent t) e in omega (arith, p, q)
+
+  -- the values that are lent have room on a page
+  pub few : (kind : Kind) → s .kind ≡ kind → (k : ℕ) → k ≤ lentAt lent (stretchOf r) → k * widthOf kind ≤ 360448
+  few kind q k h = by-kind kind (subst (λ (x : Kind). s .places * widthOf x ≤ 360448) q (l .short)) (omega (arith, ap (λ (t : Stretch). lentAt lent t) e))
+    where
+      by-kind : (x : Kind) → s .places * widthOf x ≤ 360448 → k ≤ s .places → k * widthOf x ≤ 360448
+      by-kind Counts p b = omega arith
+      by-kind Numbers p b = omega arith
+      by-kind Bytes p b = omega arith
 
   kind-was : (kind : Kind) → s .kind ≡ kind → kind ≡ kindOf r
   kind-was kind q = sym q ∙ ap (λ (t : Stretch). t .kind) e

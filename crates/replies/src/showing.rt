@@ -1,5 +1,5 @@
 // Rows as replies.
-ghost use Prim.Native.Nat.{_≤_};
+ghost use Prim.Native.Nat.{_≤_, _<_};
 ghost use mathlib.Core.Path.{_≡_};
 ghost use lib.ListN.{take};
 ghost use Rattle.pages.specs.Page.{Puts};
@@ -10,7 +10,9 @@ ghost use Rattle.replies.specs.Showing.{howMany, textOf, showLine};
 use crate::words::put_fault;
 use commands::Fault;
 use commands::Shown;
+use commands::names::name_at;
 use commands::rows::Kind;
+use commands::rows::ROW_NAMES;
 use commands::rows::Row;
 use lending::rows::Lent;
 use lending::rows::bytes_of;
@@ -38,15 +40,8 @@ fn put_name(page: &mut [u8; PAGE], row: Row) -> usize
     ensures { λ r. ⌜ Puts (nameOf row) 0 (now (page .entry)) r (now (page .exit)) ⌝ }
     ensures { λ r. ⌜ r ≤ 1000 ⌝ }
 {
-    match row {
-        Row::Tails => put(page, 0, b"tails"),
-        Row::Heads => put(page, 0, b"heads"),
-        Row::Weights => put(page, 0, b"weights"),
-        Row::X => put(page, 0, b"x"),
-        Row::Y => put(page, 0, b"y"),
-        Row::Boxes => put(page, 0, b"boxes"),
-        Row::Route => put(page, 0, b"route"),
-    }
+    let s = row.stretch();
+    put(page, 0, name_at(&ROW_NAMES, s.number))
 }
 
 // The first k of a row's values, of which as many are lent.

@@ -2,13 +2,13 @@
 use Prim.Native.Nat.{ℕ}
 use mathlib.Core.List.{List}
 use lib.IntN.{ℤ}
-use Rattle.walks.specs.Rows as walks
 use Rattle.commands.specs.Rows.{Value, kindOf}
 use Rattle.commands.specs.declared.rows.Row.{Row}
-use Rattle.commands.specs.declared.rows.Row.the-variants.{Tails, Heads, Weights}
+use Rattle.commands.specs.declared.rows.Row.the-variants.{Tails, Heads, Weights, X, Y, Boxes, Route}
 use Rattle.lending.specs.Stores.{Stores, stores, rowOn, withRow}
 use Rattle.lending.specs.declared.rows.Lent.{Lent}
-use Rattle.requests.specs.declared.Sizes.{Sizes}
+use Rattle.calls.specs.Calls.{Given, given}
+use Rattle.calls.specs.declared.Sizes.{Sizes}
 
 -- the numbers n and m, what is lent of each row, and the stores with the rows
 pub record Desk : Type 0 where
@@ -30,6 +30,10 @@ put r values d = record { sizes = d .sizes; lent = d .lent; all = withRow r valu
 abbrev pub withSizes : Desk → Sizes → Desk
 withSizes d sizes = record { sizes = sizes; lent = d .lent; all = d .all }
 
--- the rows of the network
-abbrev pub arcs : Desk → walks.Rows
-arcs d = walks.rows (row Tails d) (row Heads d) (row Weights d)
+-- what a call is given: the lent places of its rows
+abbrev pub lentRows : Desk → Given
+lentRows d = given (row Tails d) (row Heads d) (row Weights d) (row X d) (row Y d) (row Boxes d) (row Route d)
+
+-- the desk once a call has given back the rows that calls write
+abbrev pub givenBack : Given → Desk → Desk
+givenBack g d = put Route (g .route) (put Boxes (g .boxes) (put Weights (g .weights) d))

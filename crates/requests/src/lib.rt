@@ -1,33 +1,21 @@
 // What the console does: a request is met with just the places that are lent, and its reply is put on a page.
-pub mod calls;
-pub mod texts;
+pub mod copies;
 
 ghost use Prim.Native.Nat.{_≤_};
-ghost use Rattle.pages.specs.Page.{Replied};
 ghost use Rattle.lending.specs.Stores.{stores, Full};
 ghost use Rattle.requests.specs.Desk.{desk};
-ghost use Rattle.requests.specs.Requests.{Meets};
-use crate::calls::make;
-use crate::texts::graph;
-use crate::texts::places;
+ghost use Rattle.requests.specs.Requests.{Obeyed};
+use crate::copies::call_on;
+use crate::copies::graph;
+use crate::copies::places;
+use calls::Done;
+use calls::Sizes;
 use commands::Request;
 use lending::rows::Lent;
 use pages::PAGE;
 use replies::showing::show_row;
 use replies::words::put_help;
 use replies::words::put_ok;
-
-// The numbers that are handed in with the rows.
-pub struct Sizes {
-    pub n: u32,
-    pub m: u32,
-}
-
-// What a request leaves: the numbers from now on, and where its reply ends on the page.
-pub struct Done {
-    pub sizes: Sizes,
-    pub end: usize,
-}
 
 // Does what a line asks for with just the places that are lent. The line still has the name of a file.
 pub fn obey(
@@ -41,7 +29,7 @@ pub fn obey(
     bytes: &mut [u8],
 ) -> Done
     requires { ⌜ Full (stores (now counts) (now numbers) (now bytes)) ⌝ }
-    ensures { λ r. ⌜ Replied (λ held reply. Meets held (desk sizes lent (now (counts .entry)) (now (numbers .entry)) (now (bytes .entry))) request reply (desk (r .sizes) lent (now (counts .exit)) (now (numbers .exit)) (now (bytes .exit)))) (now (page .entry)) (r .end) (now (page .exit)) ⌝ }
+    ensures { λ r. ⌜ Obeyed (desk sizes lent (now (counts .entry)) (now (numbers .entry)) (now (bytes .entry))) request (desk (r .sizes) lent (now (counts .exit)) (now (numbers .exit)) (now (bytes .exit))) (now (page .entry)) (r .end) (now (page .exit)) ⌝ }
     ensures { λ r. ⌜ r .end ≤ 368640 ⌝ }
 {
     match request {
@@ -71,7 +59,7 @@ pub fn obey(
             };
         }
         Request::Call(call) => {
-            let end = make(page, call, sizes, lent, counts, numbers, bytes);
+            let end = call_on(page, call, sizes, lent, counts, numbers, bytes);
             return Done { sizes, end };
         }
         Request::Help => {

@@ -1,43 +1,35 @@
 -- `requests::obey` meets its contract. Assumes nothing.
 use native.Mathlib.Omega.{arith}
-use Rattle.replies.specs.Replies.{okLine, helpLine}
-use Rattle.files.specs.File.{unread}
 use Rattle.requests.specs.Requests.{Meets}
-use Rattle.requests.proofs.RequestLaws.{meets-case}
+use Rattle.requests.proofs.RequestLaws.{obeyed-case, obeyed}
 use borrow.Author.Needs.{needs}
 use Rattle.requests.proofs.obey.Statement.{statement}
 use Rattle.requests.proofs.obey.Tie as tie
 
 returns : tie.Need-returns
-returns c =
-    (record { held = unread; reply = okLine; says = meets-case (c .before .before .before .request .given .1) Meets.set-n; puts = c .put-ok .ensures .0 }, omega arith)
+returns c = (obeyed (c .before .before .before .request .given .1) Meets.set-n (c .put-ok .ensures .0), omega arith)
 
 returns-2 : tie.Need-returns-2
-returns-2 c =
-    (record { held = unread; reply = okLine; says = meets-case (c .before .before .before .request2 .given .1) Meets.set-m; puts = c .put-ok2 .ensures .0 }, omega arith)
+returns-2 c = (obeyed (c .before .before .before .request2 .given .1) Meets.set-m (c .put-ok2 .ensures .0), omega arith)
 
 returns-3 : tie.Need-returns-3
 returns-3 c =
-    (record { held = unread; reply = _; says = meets-case (c .before .before .before .before .before .before .request3 .given .1) Meets.show; puts = c .show-row .ensures .0 }, omega arith)
+    (obeyed (c .before .before .before .before .before .before .request3 .given .1) Meets.show (c .show-row .ensures .0), omega arith)
 
 returns-4 : tie.Need-returns-4
 returns-4 c =
-    let met = c .before .before .graph .ensures .0 in
-    (record { held = met .held; reply = met .reply; says = meets-case (c .before .before .before .before .before .before .before .enum-told .given .1) (met .says); puts = met .puts }, omega arith)
+    (obeyed-case (c .before .before .before .before .before .before .before .enum-told .given .1) (c .before .before .graph .ensures .0), omega arith)
 
 returns-5 : tie.Need-returns-5
 returns-5 c =
-    let met = c .before .places .ensures .0 in
-    (record { held = met .held; reply = met .reply; says = meets-case (c .before .before .before .before .before .before .enum-told2 .given .1) (met .says); puts = met .puts }, omega arith)
+    (obeyed-case (c .before .before .before .before .before .before .enum-told2 .given .1) (c .before .places .ensures .0), omega arith)
 
 returns-6 : tie.Need-returns-6
 returns-6 c =
-    let met = c .before .before .before .make .ensures .0 in
-    (record { held = unread; reply = met .reply; says = meets-case (c .before .before .before .before .before .before .before .before .before .request4 .given .1) (Meets.called (met .says)); puts = met .puts }, omega arith)
+    (obeyed-case (c .before .before .before .before .before .before .before .before .before .request4 .given .1) (c .before .before .before .call-on .ensures .0), omega arith)
 
 returns-7 : tie.Need-returns-7
-returns-7 c =
-    (record { held = unread; reply = helpLine; says = meets-case (c .before .before .enum-told3 .given .1) Meets.help; puts = c .put-help .ensures .0 }, omega arith)
+returns-7 c = (obeyed (c .before .before .enum-told3 .given .1) Meets.help (c .put-help .ensures .0), omega arith)
 
 pub obey-spec : {M : Type 1} → statement M
 obey-spec =

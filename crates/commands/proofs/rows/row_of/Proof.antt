@@ -1,19 +1,28 @@
 -- `commands::rows::row_of` meets its contract. Assumes nothing.
+use mathlib.Core.List.{List, map}
 use Rattle.scan.specs.Ascii.{bytes}
-use Rattle.commands.specs.Rows.{named}
+use Rattle.commands.specs.Rows.{allRows, rowOf}
+use Rattle.commands.specs.declared.rows.RowName.{RowName}
+use Rattle.commands.specs.declared.rows.RowName.the-variants.{Known, Unknown}
+use Rattle.commands.proofs.NameLaws.{named, unnamed}
 use borrow.Author.Needs.{needs}
 use Rattle.commands.proofs.rows.row_of.Statement.{statement}
 use Rattle.commands.proofs.rows.row_of.Tie as tie
 
-returns : tie.Need-returns
-unfolding named bytes
-returns c = rw (c .row-named7 .ensures, c .before .before .row-named6 .ensures, c .before .before .before .before .row-named5 .ensures, c .before .before .before .before .before .before .row-named4 .ensures, c .before .before .before .before .before .before .before .before .row-named3 .ensures, c .before .before .before .before .before .before .before .before .before .before .row-named2 .ensures, c .before .before .before .before .before .before .before .before .before .before .before .before .row-named .ensures)
+abbrev names : List RowName
+names = map Known allRows
 
 pub row-of-spec : {M : Type 1} → statement M
+unfolding rowOf bytes
 row-of-spec =
     tie.close
     (tie.spec
-    (λ c. search needs) (λ c κs. search needs) (λ c. search needs) (λ c κs. search needs) (λ c. search needs)
-    (λ c κs. search needs) (λ c. search needs) (λ c κs. search needs) (λ c. search needs) (λ c κs. search needs)
-    (λ c. search needs) (λ c κs. search needs) (λ c. search needs) (λ c κs. search needs)
-    returns)
+    (λ c. search needs) (λ c κs. search needs)
+    (λ c. named names Unknown (c .before .place-of .ensures) (c .match .keys1))
+    (λ c. named names Unknown (c .before .place-of .ensures) (c .match .keys2))
+    (λ c. named names Unknown (c .before .place-of .ensures) (c .match .keys3))
+    (λ c. named names Unknown (c .before .place-of .ensures) (c .match .keys4))
+    (λ c. named names Unknown (c .before .place-of .ensures) (c .match .keys5))
+    (λ c. named names Unknown (c .before .place-of .ensures) (c .match .keys6))
+    (λ c. named names Unknown (c .before .place-of .ensures) (c .match .keys7))
+    (λ c. unnamed names Unknown (c .before .place-of .ensures) (c .match .rest)))

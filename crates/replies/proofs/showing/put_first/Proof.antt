@@ -25,7 +25,7 @@ put-counts-requires c κs =
     let s = c .before .before .before .before .before .stretch in
     let a = c .before .before .before .before .before .before .before .before .args in
     let n = length-take-le (a .k) (c .before .before .counts-of .result .now) (some-counts (c .before .before)) in
-    let h = few _ (a .row) (s .ensures .0) (s .ensures .1) (a .lent) (stores (a .counts .now) (a .numbers .now) (a .bytes .now)) (c .before .before .before .before .before .before .before .before .pre .2) (a .k) (c .before .before .before .before .before .before .before .before .pre .1) in
+    let h = few _ (a .row) (s .ensures .0) (s .ensures .1) (a .lent) (stores (a .counts .now) (a .numbers .now) (a .bytes .now)) (c .before .before .before .before .before .before .before .before .pre .2) Counts (c .before .before .before .enum-told .given .1) (a .k) (c .before .before .before .before .before .before .before .before .pre .1) in
     omega (arith, n, h)
 
 returns : tie.Need-returns
@@ -33,7 +33,7 @@ returns c =
     let s = c .before .before .before .before .before .before .stretch in
     let a = c .before .before .before .before .before .before .before .before .before .args in
     let n = length-take-le (a .k) (c .before .before .before .counts-of .result .now) (some-counts (c .before .before .before)) in
-    let h = few _ (a .row) (s .ensures .0) (s .ensures .1) (a .lent) (stores (a .counts .now) (a .numbers .now) (a .bytes .now)) (c .before .before .before .before .before .before .before .before .before .pre .2) (a .k) (c .before .before .before .before .before .before .before .before .before .pre .1) in
+    let h = few _ (a .row) (s .ensures .0) (s .ensures .1) (a .lent) (stores (a .counts .now) (a .numbers .now) (a .bytes .now)) (c .before .before .before .before .before .before .before .before .before .pre .2) Counts (c .before .before .before .before .enum-told .given .1) (a .k) (c .before .before .before .before .before .before .before .before .before .pre .1) in
     (first-as _ (a .row) (s .ensures .0) (s .ensures .1) (a .lent) (stores (a .counts .now) (a .numbers .now) (a .bytes .now)) (c .before .before .before .before .before .before .before .before .before .pre .2) Counts (c .before .before .before .before .enum-told .given .1) _ (c .before .before .before .counts-of .ensures) (a .k) (c .put-counts .ensures .0), omega (arith, n, h))
 
 some-numbers : (c : tie.After-numbers-of) → c .before .before .before .before .before .before .args .k ≤ length (c .numbers-of .result .now)
@@ -50,7 +50,7 @@ put-numbers-requires c κs =
     let s = c .before .before .before .before .before .stretch in
     let a = c .before .before .before .before .before .before .before .before .args in
     let n = length-take-le (a .k) (c .before .before .numbers-of .result .now) (some-numbers (c .before .before)) in
-    let h = few _ (a .row) (s .ensures .0) (s .ensures .1) (a .lent) (stores (a .counts .now) (a .numbers .now) (a .bytes .now)) (c .before .before .before .before .before .before .before .before .pre .2) (a .k) (c .before .before .before .before .before .before .before .before .pre .1) in
+    let h = few _ (a .row) (s .ensures .0) (s .ensures .1) (a .lent) (stores (a .counts .now) (a .numbers .now) (a .bytes .now)) (c .before .before .before .before .before .before .before .before .pre .2) Numbers (c .before .before .before .enum-told2 .given .1) (a .k) (c .before .before .before .before .before .before .before .before .pre .1) in
     omega (arith, n, h)
 
 returns-2 : tie.Need-returns-2
@@ -58,7 +58,7 @@ returns-2 c =
     let s = c .before .before .before .before .before .before .stretch in
     let a = c .before .before .before .before .before .before .before .before .before .args in
     let n = length-take-le (a .k) (c .before .before .before .numbers-of .result .now) (some-numbers (c .before .before .before)) in
-    let h = few _ (a .row) (s .ensures .0) (s .ensures .1) (a .lent) (stores (a .counts .now) (a .numbers .now) (a .bytes .now)) (c .before .before .before .before .before .before .before .before .before .pre .2) (a .k) (c .before .before .before .before .before .before .before .before .before .pre .1) in
+    let h = few _ (a .row) (s .ensures .0) (s .ensures .1) (a .lent) (stores (a .counts .now) (a .numbers .now) (a .bytes .now)) (c .before .before .before .before .before .before .before .before .before .pre .2) Numbers (c .before .before .before .before .enum-told2 .given .1) (a .k) (c .before .before .before .before .before .before .before .before .before .pre .1) in
     (first-as _ (a .row) (s .ensures .0) (s .ensures .1) (a .lent) (stores (a .counts .now) (a .numbers .now) (a .bytes .now)) (c .before .before .before .before .before .before .before .before .before .pre .2) Numbers (c .before .before .before .before .enum-told2 .given .1) _ (c .before .before .before .numbers-of .ensures) (a .k) (c .put-numbers .ensures .0), omega (arith, n, h))
 
 some-bytes : (c : tie.After-bytes-of) → c .before .before .before .before .before .before .args .k ≤ length (c .bytes-of .result .now)
@@ -75,7 +75,7 @@ put-bytes-requires c κs =
     let s = c .before .before .before .before .before .stretch in
     let a = c .before .before .before .before .before .before .before .before .args in
     let n = length-take-le (a .k) (c .before .before .bytes-of .result .now) (some-bytes (c .before .before)) in
-    let h = few _ (a .row) (s .ensures .0) (s .ensures .1) (a .lent) (stores (a .counts .now) (a .numbers .now) (a .bytes .now)) (c .before .before .before .before .before .before .before .before .pre .2) (a .k) (c .before .before .before .before .before .before .before .before .pre .1) in
+    let h = few _ (a .row) (s .ensures .0) (s .ensures .1) (a .lent) (stores (a .counts .now) (a .numbers .now) (a .bytes .now)) (c .before .before .before .before .before .before .before .before .pre .2) Bytes (c .before .before .before .enum-told3 .given .1) (a .k) (c .before .before .before .before .before .before .before .before .pre .1) in
     omega (arith, n, h)
 
 returns-3 : tie.Need-returns-3
@@ -83,7 +83,7 @@ returns-3 c =
     let s = c .before .before .before .before .before .before .stretch in
     let a = c .before .before .before .before .before .before .before .before .before .args in
     let n = length-take-le (a .k) (c .before .before .before .bytes-of .result .now) (some-bytes (c .before .before .before)) in
-    let h = few _ (a .row) (s .ensures .0) (s .ensures .1) (a .lent) (stores (a .counts .now) (a .numbers .now) (a .bytes .now)) (c .before .before .before .before .before .before .before .before .before .pre .2) (a .k) (c .before .before .before .before .before .before .before .before .before .pre .1) in
+    let h = few _ (a .row) (s .ensures .0) (s .ensures .1) (a .lent) (stores (a .counts .now) (a .numbers .now) (a .bytes .now)) (c .before .before .before .before .before .before .before .before .before .pre .2) Bytes (c .before .before .before .before .enum-told3 .given .1) (a .k) (c .before .before .before .before .before .before .before .before .before .pre .1) in
     (first-as _ (a .row) (s .ensures .0) (s .ensures .1) (a .lent) (stores (a .counts .now) (a .numbers .now) (a .bytes .now)) (c .before .before .before .before .before .before .before .before .before .pre .2) Bytes (c .before .before .before .before .enum-told3 .given .1) _ (c .before .before .before .bytes-of .ensures) (a .k) (c .put-bytes .ensures .0), omega (arith, n, h))
 
 pub put-first-spec : {M : Type 1} → statement M

@@ -1,29 +1,23 @@
 -- `replies::showing::put_name` meets its contract. Assumes nothing.
+use mathlib.Core.Path.{ap, _∙_}
 use native.Mathlib.Omega.{arith}
 use borrow.Author.Needs.{needs}
 use Rattle.scan.specs.Ascii.{bytes}
-use Rattle.pages.proofs.PageLaws.{puts-case}
-use Rattle.commands.specs.Rows.{nameOf}
+use Rattle.pages.proofs.PageLaws.{puts-same}
+use Rattle.commands.specs.Rows.{rowNames}
+use Rattle.commands.specs.Words.{word}
+use Rattle.commands.specs.declared.rows.Stretch.{Stretch}
 use Rattle.replies.proofs.showing.put_name.Statement.{statement}
 use Rattle.replies.proofs.showing.put_name.Tie as tie
 
--- the arms in their order
-pub put-name-spec : {M : Type 1} → statement M
+returns : tie.Need-returns
 unfolding bytes
+returns c =
+    let name = c .before .name-at .ensures in
+    let here = ap (λ (s : Stretch). word (s .number) rowNames) (c .before .before .before .before .stretch .ensures .0) in
+    (puts-same (name .0 ∙ here) (c .put .ensures), omega (arith, c .put .ensures .end, name .1))
+
+pub put-name-spec : {M : Type 1} → statement M
 put-name-spec =
     tie.close
-    (tie.spec
-    (λ c. search needs) (λ c. search needs) (λ c κs. search needs)
-    (λ c. search needs) (λ c. search needs) (λ c κs. search needs)
-    (λ c. search needs) (λ c. search needs) (λ c κs. search needs)
-    (λ c. search needs) (λ c. search needs) (λ c κs. search needs)
-    (λ c. search needs) (λ c. search needs) (λ c κs. search needs)
-    (λ c. search needs) (λ c. search needs) (λ c κs. search needs)
-    (λ c. search needs) (λ c. search needs) (λ c κs. search needs)
-    (λ c. (puts-case nameOf (c .before .before .before .enum-told .given .1) (c .put .ensures), omega arith))
-    (λ c. (puts-case nameOf (c .before .before .before .enum-told2 .given .1) (c .put2 .ensures), omega arith))
-    (λ c. (puts-case nameOf (c .before .before .before .enum-told3 .given .1) (c .put3 .ensures), omega arith))
-    (λ c. (puts-case nameOf (c .before .before .before .enum-told4 .given .1) (c .put4 .ensures), omega arith))
-    (λ c. (puts-case nameOf (c .before .before .before .enum-told5 .given .1) (c .put5 .ensures), omega arith))
-    (λ c. (puts-case nameOf (c .before .before .before .enum-told6 .given .1) (c .put6 .ensures), omega arith))
-    (λ c. (puts-case nameOf (c .before .before .before .enum-told7 .given .1) (c .put7 .ensures), omega arith)))
+    (tie.spec (λ c κs. search needs) (λ c. search needs) (λ c κs. search needs) (λ c κs. search needs) returns)
