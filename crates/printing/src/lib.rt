@@ -3,9 +3,6 @@ ghost use Prim.Native.Nat.{_≤_};
 use libc::STDOUT_FILENO;
 use pages::PAGE;
 use pages::size;
-use rules::Judged;
-use rules::Refusal;
-use wording::put_place;
 
 // Writes the page up to an end.
 pub fn out(page: &[u8; PAGE], end: usize)
@@ -28,18 +25,4 @@ pub fn number(z: i32) {
         text(b"-");
     }
     io::print_decimal(STDOUT_FILENO, size(z));
-}
-
-// `refused`, the paper's number, and the place or 0.
-pub fn refused(r: Refusal) {
-    let mut page = [0u8; PAGE];
-    let end = put_place(&mut page, 0, r);
-    out(&page, end);
-}
-
-pub fn judged(j: Judged) {
-    match j {
-        Judged::Fine => text(b"fine\n"),
-        Judged::Refused(r) => refused(r),
-    }
 }
