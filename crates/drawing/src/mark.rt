@@ -67,6 +67,5 @@ pub fn mark_toward(
     ensures { λ _. ⌜ Drawn markRow k (Marked (leadsTo (rows (now (tails .entry)) (now (heads .entry)) (now (weights .entry))) n m t)) (now (marked .entry)) (now (marked .exit)) ⌝ }
 {
     let labels = settling::run::label_all(t, n, m, heads, tails, weights, first, next);
-    let lengths = labels.length;
-    mark_arcs(&lengths, k, tails, heads, weights, marked);
+    mark_arcs(&labels.length, k, tails, heads, weights, marked);
 }

@@ -5,12 +5,15 @@ use Rattle.settling.specs.declared.Labels.{Labels}
 use Rattle.settling.proofs.Widen.{widened}
 use Rattle.drawing.specs.Leads.{lengthsTo}
 use Rattle.drawing.proofs.Steps.{first-arcs}
+use borrow.Author.Needs.{needs}
 use Rattle.drawing.proofs.mark.mark_toward.Statement.{statement}
 use Rattle.drawing.proofs.mark.mark_toward.Tie as tie
 
 label-all-requires : tie.Need-label-all-requires
 label-all-requires c κs =
-    let p = c .before .before .before .pre in (p .0, p .1, turned-sound (p .3), p .4)
+    let p = c .before .before .before .pre in
+    let turned = turned-sound (p .3) in
+    (p .0, p .1, search needs, p .4)
 
 mark-arcs-requires : tie.Need-mark-arcs-requires
 mark-arcs-requires c κs =
