@@ -5,6 +5,7 @@ ghost use Rattle.walks.specs.Rows.{rows, Sound};
 ghost use Rattle.drawing.specs.Drawn.{markOf};
 ghost use Rattle.drawing.specs.Missed.{missesPlace, missesNode, BeforeFirst, IsFirst};
 use crate::mark::mark_toward;
+use frontier::chain::link;
 
 // The lowest arc whose box misses a node of its S(e), and then its lowest such node; or that no box misses any.
 pub enum Miss {
@@ -44,12 +45,26 @@ pub fn find_miss(
     requires { ⌜ Sound n m (rows (now tails) (now heads) (now weights)) × (n ≤ length (now x)) × (n ≤ length (now y)) × (4 * m ≤ length (now boxes)) ⌝ }
     ensures { λ r. ⌜ IsFirst (missesNode (rows (now (tails .entry)) (now (heads .entry)) (now (weights .entry))) n m (now (boxes .entry)) (now (x .entry)) (now (y .entry))) n m r ⌝ }
 {
+    let mut first = [m as u32; 512];
+    let mut next = [0u32; 2048];
+    link(m, heads, &mut first, &mut next);
     let mut marked = [false; 2048];
     let mut below = m;
     let mut node: usize = 0;
     let mut t: usize = 0;
     while t < n {
-        mark_toward(t + 1, below, n, m, tails, heads, weights, &mut marked);
+        mark_toward(
+            t + 1,
+            below,
+            n,
+            m,
+            tails,
+            heads,
+            weights,
+            &first,
+            &next,
+            &mut marked,
+        );
         let e = before_miss(&marked, x[t], y[t], below, boxes);
         if e < below {
             below = e;

@@ -6,6 +6,7 @@ ghost use Rattle.drawing.specs.Leads.{leadsTo};
 ghost use Rattle.drawing.specs.Drawn.{Drawn, boxRow, markOf};
 ghost use Rattle.drawing.specs.Grown.{GrownOnce, GrownAll};
 use crate::mark::mark_toward;
+use frontier::chain::link;
 
 // Each marked arc's box grows by a place.
 fn grow_marked(marked: &[bool; 2048], px: i32, py: i32, m: usize, boxes: &mut [i32])
@@ -35,10 +36,24 @@ pub fn grow_all(
     requires { ⌜ Sound n m (rows (now tails) (now heads) (now weights)) × (n ≤ length (now x)) × (n ≤ length (now y)) × (4 * m ≤ length (now boxes)) ⌝ }
     ensures { λ _. ⌜ Drawn boxRow m (GrownAll (leadsTo (rows (now (tails .entry)) (now (heads .entry)) (now (weights .entry))) n m) (now (x .entry)) (now (y .entry)) n) (now (boxes .entry)) (now (boxes .exit)) ⌝ }
 {
+    let mut first = [m as u32; 512];
+    let mut next = [0u32; 2048];
+    link(m, heads, &mut first, &mut next);
     let mut marked = [false; 2048];
     let mut t: usize = 0;
     while t < n {
-        mark_toward(t + 1, m, n, m, tails, heads, weights, &mut marked);
+        mark_toward(
+            t + 1,
+            m,
+            n,
+            m,
+            tails,
+            heads,
+            weights,
+            &first,
+            &next,
+            &mut marked,
+        );
         grow_marked(&marked, x[t], y[t], m, boxes);
         t += 1;
     }

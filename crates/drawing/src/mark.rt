@@ -2,6 +2,7 @@
 ghost use mathlib.Core.Path.{_≡_};
 ghost use Prim.Native.Nat.{_≤_};
 ghost use lib.ListN.{length};
+ghost use Rattle.frontier.specs.Chain.{Chained};
 ghost use Rattle.walks.specs.Rows.{rows, Sound};
 ghost use Rattle.settling.specs.LengthsTo.{onShortest};
 ghost use Rattle.drawing.specs.Drawn.{Drawn, markRow};
@@ -47,7 +48,8 @@ fn mark_arcs(
     }
 }
 
-// Marks those of the arcs 1..k whose S(e) has t. With tails and heads swapped: those by which a shortest walk from t ends.
+// Marks those of the arcs 1..k whose S(e) has t, by all m arcs, which are lent chained by their heads. With tails and heads
+// swapped: those by which a shortest walk from t ends.
 pub fn mark_toward(
     t: usize,
     k: usize,
@@ -56,12 +58,14 @@ pub fn mark_toward(
     tails: &[u32],
     heads: &[u32],
     weights: &[u32],
+    first: &[u32; 512],
+    next: &[u32; 2048],
     marked: &mut [bool; 2048],
 )
-    requires { ⌜ (1 ≤ t) × (t ≤ n) × (k ≤ m) × Sound n m (rows (now tails) (now heads) (now weights)) × (length (now marked) ≡ 2048) ⌝ }
+    requires { let R = rows (now tails) (now heads) (now weights) in
+        ⌜ (1 ≤ t) × (t ≤ n) × (k ≤ m) × Sound n m R × Chained m (now heads) (now first) (now next) × (length (now marked) ≡ 2048) ⌝ }
     ensures { λ _. ⌜ Drawn markRow k (Marked (leadsTo (rows (now (tails .entry)) (now (heads .entry)) (now (weights .entry))) n m t)) (now (marked .entry)) (now (marked .exit)) ⌝ }
 {
-    let labels = settling::run::label_all(t, n, m, heads, tails, weights);
-    let lengths = labels.length;
-    mark_arcs(&lengths, k, tails, heads, weights, marked);
+    let labels = settling::run::label_all(t, n, m, heads, tails, weights, first, next);
+    mark_arcs(&labels.length, k, tails, heads, weights, marked);
 }

@@ -4,7 +4,7 @@ use mathlib.Core.Path.{_≡_, refl, sym, ap, _∙_}
 use mathlib.Core.Bool.{Bool, true, false}
 use mathlib.Core.List.{List, []}
 use lib.ListN.{getD}
-use Rattle.walks.specs.Rows.{Rows, Sound, arc-at}
+use Rattle.walks.specs.Rows.{Rows}
 use Rattle.settling.specs.declared.Labels.{Labels}
 use Rattle.settling.specs.declared.Into.{Into}
 use Rattle.settling.specs.Labels.{labels, offered}
@@ -13,14 +13,8 @@ use Rattle.settling.specs.Trace.{arcFits, intoOf, afterInto, traceOf}
 use Rattle.settling.proofs.TraceSteps.{Rest, miss, arc-other}
 use Rattle.settling.specs.Settle.{arcStep, relaxed}
 use Rattle.settling.proofs.SettleSteps.{relaxed-next, step-other, step-shut, step-open}
-use Rattle.frontier.specs.Chain.{Ends, From}
+use Rattle.frontier.specs.Chain.{From}
 use Rattle.frontier.proofs.Along.{along}
-
-pub tails-ends : {m : ℕ} {R : Rows} → Sound 512 m R → Ends m (R .tails)
-tails-ends s = record { few = s .arcs-high; long = s .tails-long; node = λ j h. let a = arc-at s j h in (a .tail-low, a .tail-high) }
-
-pub heads-ends : {m : ℕ} {R : Rows} → Sound 512 m R → Ends m (R .heads)
-heads-ends s = record { few = s .arcs-high; long = s .heads-long; node = λ j h. let a = arc-at s j h in (a .head-low, a .head-high) }
 
 -- ---- Relaxing along a chain
 

@@ -1,6 +1,7 @@
 // The run: step after step, nodes are settled.
 ghost use mathlib.Core.Path.{_≡_};
 ghost use Prim.Native.Nat.{_≤_};
+ghost use Rattle.frontier.specs.Chain.{Chained};
 ghost use Rattle.walks.specs.Rows.{rows, Sound};
 ghost use mathlib.Core.Bool.{true};
 ghost use Rattle.settling.specs.Run.{searchOf, labelsOf};
@@ -21,23 +22,23 @@ use frontier::tree::put;
 // How many nodes a search settles in a step: the labels are copied for each.
 const STEP: usize = 16;
 
-// The run that a task asks, with so many nodes a step.
+// The run that a task asks, with so many nodes a step, along the arcs chained by their tails.
 fn run_by(
     rounds: usize,
     task: Task,
     tails: &[u32],
     heads: &[u32],
     weights: &[u32],
+    first: &[u32; 512],
+    next: &[u32; 2048],
     boxes: &[i32],
 ) -> Outcome
-    requires { ⌜ (1 ≤ rounds) × (rounds ≤ 513) × Posed task (rows (now tails) (now heads) (now weights)) (now boxes) ⌝ }
+    requires { let R = rows (now tails) (now heads) (now weights) in
+        ⌜ (1 ≤ rounds) × (rounds ≤ 513) × Posed task R (now boxes) × Chained (task .m) (now tails) (now first) (now next) ⌝ }
     ensures { λ r.
         let R = rows (now (tails .entry)) (now (heads .entry)) (now (weights .entry)) in
         ⌜ r ≡ outcomeOf R (now (boxes .entry)) task ⌝ }
 {
-    let mut first = [task.m as u32; 512];
-    let mut next = [0u32; 2048];
-    link(task.m, tails, &mut first, &mut next);
     let mut tree = [FAR; 1024];
     put(&mut tree, task.s - 1, key(0, 0, task.s - 1));
     let mut r = Stride {
@@ -56,8 +57,8 @@ fn run_by(
             tails,
             heads,
             weights,
-            &first,
-            &next,
+            first,
+            next,
             boxes,
         );
     }
@@ -85,12 +86,15 @@ pub fn run(
     requires { ⌜ (1 ≤ s) × (s ≤ n) × Sound n m (rows (now tails) (now heads) (now weights)) × Room toward m (now boxes) ⌝ }
     ensures { λ r. ⌜ r ≡ searchOf (rows (now (tails .entry)) (now (heads .entry)) (now (weights .entry))) (keeps toward (now (boxes .entry))) n m t s ⌝ }
 {
+    let mut first = [m as u32; 512];
+    let mut next = [0u32; 2048];
+    link(m, tails, &mut first, &mut next);
     let task = Task { s, t, n, m, toward };
-    run_by(STEP, task, tails, heads, weights, boxes)
+    run_by(STEP, task, tails, heads, weights, &first, &next, boxes)
 }
 
-// The labels of all that can be reached from `s`, by any arcs. With tails and heads swapped: of all that leads to `s`.
-// One step of n + 1 nodes is the whole run.
+// The labels of all that can be reached from `s`, by any arcs, which are lent chained by their tails. With tails and heads
+// swapped: of all that leads to `s`. One step of n + 1 nodes is the whole run.
 pub fn label_all(
     s: usize,
     n: usize,
@@ -98,8 +102,10 @@ pub fn label_all(
     tails: &[u32],
     heads: &[u32],
     weights: &[u32],
+    first: &[u32; 512],
+    next: &[u32; 2048],
 ) -> Labels
-    requires { ⌜ (1 ≤ s) × (s ≤ n) × Sound n m (rows (now tails) (now heads) (now weights)) ⌝ }
+    requires { ⌜ (1 ≤ s) × (s ≤ n) × Sound n m (rows (now tails) (now heads) (now weights)) × Chained m (now tails) (now first) (now next) ⌝ }
     ensures { λ r. ⌜ r ≡ labelsOf (rows (now (tails .entry)) (now (heads .entry)) (now (weights .entry))) (λ e. true) n m s ⌝ }
 {
     // of no arc is a box asked
@@ -111,6 +117,6 @@ pub fn label_all(
         m,
         toward: Toward::Anywhere,
     };
-    let o = run_by(n + 1, task, tails, heads, weights, &boxes);
+    let o = run_by(n + 1, task, tails, heads, weights, first, next, &boxes);
     o.labels
 }

@@ -1,45 +1,37 @@
 -- `settling::run::run_by` meets its contract. The loop's invariant: the run is over, or stands at the labels at hand. Assumes nothing.
-use Prim.Native.Nat.{ℕ}
 use native.Mathlib.Omega.{arith}
 use borrow.Author.Tests.{not-true, not-false}
 use mathlib.Core.Path.{refl}
-use lib.ListN.{length-replicate}
 use Rattle.walks.specs.Rows.{rows}
 use Rattle.frontier.proofs.Leaves.{mended-start}
 use Rattle.settling.specs.Step.{Strode}
-use Rattle.settling.proofs.Widen.{widened}
-use Rattle.settling.proofs.AlongChains.{tails-ends}
 use Rattle.settling.proofs.StepByStep.{stands-start, strode-on, strode-here, leftOf, strode-less}
 use borrow.Author.Needs.{needs}
 use Rattle.settling.proofs.run.run_by.Statement.{statement}
 use Rattle.settling.proofs.run.run_by.Tie as tie
 
 abbrev Inv-loop : tie.InvT-loop
-Inv-loop rounds task tails heads weights boxes first next tree₀ r₀ tree r =
+Inv-loop rounds task tails heads weights first next boxes tree₀ r₀ tree r =
     Strode (rows tails heads weights) boxes task (r .count) r tree
 
 abbrev μ-loop : tie.MeasureT-loop
-μ-loop rounds task tails heads weights boxes first next tree₀ r₀ tree r = leftOf (task .n) r
-
-link-requires : tie.Need-link-requires Inv-loop μ-loop
-link-requires c κs =
-    (tails-ends (widened (c .before .before .before .before .before .before .pre .2 .sound)), refl, length-replicate {A = ℕ} 2_048 0)
+μ-loop rounds task tails heads weights first next boxes tree₀ r₀ tree r = leftOf (task .n) r
 
 put-requires : tie.Need-put-requires Inv-loop μ-loop
 put-requires c κs =
-    let p = c .before .before .before .before .before .before .before .before .before .before .before .pre .2 in (omega (arith, p .source-low, p .source-high, p .sound .nodes-high), mended-start)
+    let p = c .before .before .before .before .before .before .before .pre .2 in (omega (arith, p .source-low, p .source-high, p .sound .nodes-high), mended-start)
 
 loop-holds : tie.Need-loop-holds Inv-loop μ-loop
 loop-holds c =
-    strode-on _ _ _ 0 refl (stands-start (c .before .before .before .before .before .before .before .before .before .before .before .before .before .pre .2) _ (c .before .put .ensures) (c .before .before .key .ensures) (c .start .ensures))
+    strode-on _ _ _ 0 refl (stands-start (c .before .before .before .before .before .before .before .before .before .pre .2) _ (c .before .put .ensures) (c .before .before .key .ensures) (c .start .ensures))
 
 settle-requires : tie.Need-settle-requires Inv-loop μ-loop
 settle-requires c κs =
-    (c .before .before .before .before .before .loop .inv .stands (not-true _ (c .before .before .before .if1 .taken)), c .before .before .before .before .before .before .before .before .before .before .before .before .link .ensures, c .before .before .before .before .before .before .before .before .before .before .before .before .before .before .before .before .before .before .before .pre .1)
+    let p = c .before .before .before .before .before .before .before .before .before .before .before .before .before .pre in (c .before .before .before .loop .inv .stands (not-true _ (c .before .if1 .taken)), p .3, p .1)
 
 loop-less : tie.Need-loop-less Inv-loop μ-loop
 loop-less c =
-    strode-less (c .before .before .before .before .before .before .before .before .before .before .before .before .before .before .before .before .before .before .before .before .args .rounds) (c .before .before .before .before .before .before .before .before .before .before .before .before .before .before .before .before .before .before .before .before .pre .0) (not-true _ (c .before .before .before .before .if1 .taken)) (c .before .before .before .before .before .before .loop .inv) (c .settle .ensures)
+    strode-less (c .before .before .before .before .before .before .before .before .before .before .before .before .before .before .args .rounds) (c .before .before .before .before .before .before .before .before .before .before .before .before .before .before .pre .0) (not-true _ (c .before .before .if1 .taken)) (c .before .before .before .before .loop .inv) (c .settle .ensures)
 
 loop-again : tie.Need-loop-again Inv-loop μ-loop
 loop-again c = strode-here (c .settle .ensures)
@@ -53,8 +45,6 @@ run-by-spec =
     (tie.spec
     Inv-loop
     μ-loop
-    (λ c. search needs)
-    link-requires
     (λ c. search needs) (λ c. search needs) (λ c κs. search needs)
     put-requires
     (λ c κs. search needs)

@@ -9,7 +9,8 @@ use Rattle.settling.specs.Labels.{labels}
 use Rattle.settling.specs.Trace.{traceOf}
 use Rattle.settling.specs.Toward.{keeps}
 use Rattle.settling.proofs.TraceSteps.{into-in, trace-over, trace-stuck, trace-on}
-use Rattle.settling.proofs.AlongChains.{heads-ends, trace-unmarked}
+use Rattle.settling.proofs.Widen.{heads-ends}
+use Rattle.settling.proofs.AlongChains.{trace-unmarked}
 use borrow.Author.Needs.{needs}
 use Rattle.settling.proofs.trace.trace.Statement.{statement}
 use Rattle.settling.proofs.trace.trace.Tie as tie
