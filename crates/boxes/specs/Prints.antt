@@ -1,5 +1,6 @@
 -- What `boxes` prints, over what `net.gr` and `net.co` hold. Assumes nothing: these are definitions.
 use Prim.Native.Nat.{ℕ}
+use mathlib.Core.Bool.{Bool, true, false}
 use mathlib.Core.List.{List}
 use lib.IntN.{ℤ, pos}
 use lib.ListN.{replicate}
@@ -13,6 +14,8 @@ use Rattle.pages.specs.Page.{Puts}
 use Rattle.files.specs.File.{Held, text, unread}
 use Rattle.wording.specs.Refusals.{placeLine}
 use Rattle.listing.specs.Listing.{listing}
+use Rattle.dimacs.specs.Texts.{Outcome, read, refused}
+use Rattle.dimacs.specs.Reading.{readGr}
 use Rattle.dimacs.specs.Promise.{GrPromise, CoPromise}
 use Rattle.dimacs.specs.declared.GrReply.{GrReply}
 use Rattle.dimacs.specs.declared.GrReply.the-variants as graph
@@ -42,6 +45,15 @@ nodeRow = replicate 512 (pos 0)
 
 abbrev pub boxRow : List ℤ
 boxRow = replicate 8192 (pos 0)
+
+-- what was read of `net.gr` is a graph
+unfoldable pub isRead : Outcome → Bool
+isRead (read problem lines) = true
+isRead (refused r) = false
+
+abbrev pub isGraph : Held → Bool
+isGraph unread = false
+isGraph (text held) = isRead (readGr held arcRow arcRow arcRow)
 
 -- after a graph of n nodes and m arcs was read: `net.co` is judged, then the boxes are built
 pub data PrintsPlaced (n m : ℕ) (R : Rows) : Held → List ℕ → Type 0 where

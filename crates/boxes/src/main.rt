@@ -1,10 +1,11 @@
 // Reads `net.gr` and `net.co`, builds the boxes and prints one line per arc, or why it was refused.
 ghost use Prim.Native.Nat.{_≤_};
+ghost use mathlib.Core.Path.{_≡_};
 ghost use lib.ListN.{length};
 ghost use Rattle.walks.specs.Rows.{rows};
 ghost use Rattle.pages.specs.Page.{Puts, Printed};
 ghost use Rattle.files.specs.File.{Within, heldIn};
-ghost use Rattle.boxes.specs.Prints.{unreadLine, builtText, PutsRefused, PrintsPlaced, Prints};
+ghost use Rattle.boxes.specs.Prints.{isGraph, unreadLine, builtText, PutsRefused, PrintsPlaced, Prints};
 use dimacs::CoReply;
 use dimacs::GrReply;
 use files::File;
@@ -107,11 +108,40 @@ fn list(page: &mut [u8; PAGE], gr: &[u8], graph: File, co: &[u8], places: File) 
     list_with_places(page, n, m, &tails, &heads, &weights, co, places)
 }
 
+// Whether what was read of `net.gr` is a graph.
+fn is_graph(gr: &[u8], graph: File) -> bool
+    requires { ⌜ Within (length (now gr)) graph ⌝ }
+    ensures { λ r. ⌜ r ≡ isGraph (heldIn (now (gr .entry)) graph) ⌝ }
+{
+    let File::Bytes(k) = graph else {
+        return false;
+    };
+    let mut tails = [0u32; 2048];
+    let mut heads = [0u32; 2048];
+    let mut weights = [0u32; 2048];
+    let reply = dimacs::read_gr(&gr[..k], &mut tails, &mut heads, &mut weights);
+    let GrReply::Read(_n, _m) = reply else {
+        return false;
+    };
+    true
+}
+
+// What was read of `net.co`, which is opened only after `net.gr` was judged.
+fn read_places(gr: &[u8], graph: File, co: &mut [u8]) -> File
+    requires { ⌜ Within (length (now gr)) graph ⌝ }
+    ensures { λ r. ⌜ Within (length (now (co .exit))) r ⌝ }
+{
+    if is_graph(gr, graph) {
+        return read_file(b"net.co", co);
+    }
+    File::NoFile
+}
+
 fn main() {
     let mut gr = [0u8; 65537];
     let graph = read_file(b"net.gr", &mut gr);
     let mut co = [0u8; 65537];
-    let places = read_file(b"net.co", &mut co);
+    let places = read_places(&gr, graph, &mut co);
     let mut page = [0u8; PAGE];
     let end = list(&mut page, &gr, graph, &co, places);
     out(&page, end);

@@ -1,11 +1,11 @@
--- `boxes::main` meets its contract. Assumes nothing.
+-- `boxes::main` meets its contract.
 use borrow.Author.Needs.{needs}
 use Rattle.boxes.proofs.main.Statement.{statement}
 use Rattle.boxes.proofs.main.Tie as tie
 
 list-requires : tie.Need-list-requires
 list-requires c κs =
-    (c .before .before .before .before .before .before .before .before .read-file .ensures, c .before .before .before .before .read-file2 .ensures)
+    (c .before .before .before .before .before .before .before .before .read-file .ensures, c .before .before .before .before .read-places .ensures)
 
 pub main-spec : {M : Type 1} → statement M
 main-spec =
