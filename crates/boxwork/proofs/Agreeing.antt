@@ -10,9 +10,9 @@ use Rattle.rules.specs.declared.Judged.{Judged}
 use Rattle.rules.specs.declared.Refusal.the-variants.{NoWalk}
 use Rattle.walks.specs.Walk.{Net}
 use Rattle.walks.specs.Least.{Reached}
-use Rattle.walks.specs.LeastLaws.{best-length, best-count}
-use Rattle.walks.specs.RouteLaws.{route-unique}
-use Rattle.walks.specs.Pruning.{SameAnswers}
+use Rattle.walks.proofs.LeastLaws.{best-length, best-count}
+use Rattle.walks.proofs.RouteLaws.{route-unique}
+use Rattle.walks.proofs.Pruning.{SameAnswers}
 use Rattle.search.specs.Says.{Answers, found, none, Says, refused, answered}
 use Rattle.boxwork.specs.Demand3.{Agree, same-route, no-walk, same-refusal, NoRoute}
 

@@ -7,8 +7,8 @@ use lib.IntN.{ℤ}
 use lib.ListN.{length}
 use Rattle.rules.specs.declared.Judged.{Judged}
 use Rattle.walks.specs.Rows.{Rows, network}
-use Rattle.walks.specs.ThroughLaws.{inS-begins, begins-inS}
-use Rattle.walks.specs.Pruning.{pruning}
+use Rattle.walks.proofs.ThroughLaws.{inS-begins, begins-inS}
+use Rattle.walks.proofs.Pruning.{pruning}
 use Rattle.search.specs.Says.{Says, refused, answered, holding}
 use Rattle.boxwork.specs.Says.{CheckSays}
 use Rattle.judging.proofs.FineLaws.{build-fine, check-fine, update-fine, judged-alike, room-alike}

@@ -6,7 +6,7 @@ use native.Mathlib.Omega.{arith}
 use lib.IntN.{ℤ}
 use Rattle.rules.specs.Paper.{Reply}
 use Rattle.walks.specs.Rows.{Rows}
-use Rattle.walks.specs.Checking.{missed-arc, missed-node, consistent-misses}
+use Rattle.walks.proofs.CheckingLaws.{missed-arc, missed-node, consistent-misses}
 use Rattle.drawing.proofs.DrawnLaws.{puts-box, drawn-unique}
 use Rattle.boxwork.proofs.TightLaws.{tight-unique, updated-unique}
 use Rattle.boxwork.specs.Says.{BuildSays, CheckSays, UpdateSays}

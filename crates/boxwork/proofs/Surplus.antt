@@ -15,10 +15,10 @@ use Rattle.walks.specs.Checking.{Misses}
 use Rattle.geometry.specs.Box.{Box}
 use Rattle.geometry.specs.Row.{number, boxOf}
 use Rattle.geometry.proofs.SmallestLaws.{smallest-same}
-use Rattle.search.specs.Alike.{other-way, inS-alike}
+use Rattle.search.proofs.Alike.{other-way, inS-alike}
 use Rattle.judging.specs.Cut.{cut}
 use Rattle.judging.proofs.CutLaws.{place-cut, box-cut, build-judged-cut, check-judged-cut, update-judged-cut}
-use Rattle.search.specs.Cut.{network-cut}
+use Rattle.search.proofs.Cut.{network-cut}
 use Rattle.drawing.specs.Drawn.{Drawn, boxRow}
 use Rattle.boxwork.specs.Tight.{PlaceOf, Tight, Updated, HoldsNode}
 use Rattle.boxwork.proofs.TightLaws.{inS-range}

@@ -8,7 +8,7 @@ use Rattle.rules.specs.Limits.{leastCoordinate, mostCoordinate}
 use Rattle.walks.specs.Walk.{Net}
 use Rattle.walks.specs.Rows.{Rows, Sound, network}
 use Rattle.walks.specs.Through.{InS}
-use Rattle.walks.specs.Limits.{sound-within, inS-node}
+use Rattle.walks.proofs.Limits.{sound-within, inS-node}
 use Rattle.geometry.specs.Box.{Box, Holds, Within, Upright, WellShaped, Smallest}
 use Rattle.geometry.specs.Row.{coordinate}
 use Rattle.geometry.proofs.Order.{≤ℤ-trans}

@@ -9,8 +9,8 @@ use Rattle.files.specs.File.{Held}
 use Rattle.commands.specs.declared.Call.{Call}
 use Rattle.dimacs.proofs.Unique.{read-gr-unique, read-co-unique}
 use Rattle.dimacs.specs.declared.GrReply.{GrReply}
-use Rattle.search.specs.Paper.{paper-injective}
-use Rattle.search.specs.SaysLaws.{says-unique}
+use Rattle.search.proofs.PaperLaws.{paper-injective}
+use Rattle.search.proofs.SaysLaws.{says-unique}
 use Rattle.boxwork.proofs.SaysLaws.{build-unique, check-unique, update-unique}
 use Rattle.replies.specs.Replies.{judgedLine}
 use Rattle.calls.specs.Calls.{Given, withBoxes, withRoute, Makes}

@@ -9,7 +9,7 @@ use lib.ListN.{length}
 use Rattle.rules.specs.declared.Refusal.the-variants.{NoWalk}
 use Rattle.walks.specs.Walk.{Net, kept}
 use Rattle.walks.specs.Rows.{Rows, Sound, network}
-use Rattle.walks.specs.Count.{count-most}
+use Rattle.walks.proofs.CountLaws.{count-most}
 use Rattle.walks.specs.Settled as counts
 use Rattle.settling.specs.declared.Outcome.{Outcome}
 use Rattle.settling.specs.Labels.{lengthOf, arcsOf}

@@ -1,8 +1,3 @@
--- What the searches say, and that it leaves one reply and one row. What a reader must believe: Paper, Says.
+-- What the searches say.
 pub mod Paper
 pub mod Says
-pub mod SaysLaws
-pub mod Alike
-pub mod Networks
-pub mod Cut
-pub mod Surplus

@@ -8,8 +8,8 @@ use mathlib.Core.Logic.{_≢_}
 use mathlib.Core.List.{List}
 use lib.ListN.{length, getD, set, replicate, length-set, length-replicate, getD-replicate}
 use lib.Seq.{getD-set-same, getD-set-other}
-use Rattle.walks.specs.Marking.{Started, Marked}
-use Rattle.walks.specs.Relaxing.{Relabelled}
+use Rattle.walks.proofs.Marking.{Started, Marked}
+use Rattle.walks.proofs.Relaxing.{Relabelled}
 use Rattle.settling.specs.declared.Labels.{Labels}
 use Rattle.settling.specs.Labels.{none, startOf, labelled, marked}
 use Rattle.settling.specs.Seen.{seen}

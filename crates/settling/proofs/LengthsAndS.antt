@@ -6,10 +6,11 @@ use mathlib.Core.Path.{_≡_, refl, sym, subst, _∙_}
 use lib.Dec.{ltb, eqb}
 use borrow.Author.Tests.{lt-ltb, ltb-true, eqb-true, eq-eqb}
 use Rattle.walks.specs.Walk.{Net, reverse}
-use Rattle.walks.specs.WalkLaws.{backward, kept-all}
-use Rattle.walks.specs.Rows.{Rows, network, turned, turned-network, turned-sound, Sound}
+use Rattle.walks.proofs.WalkLaws.{backward, kept-all}
+use Rattle.walks.specs.Rows.{Rows, network, turned, Sound}
+use Rattle.walks.proofs.RowsLaws.{turned-network, turned-sound}
 use Rattle.walks.specs.Least.{Reached, Dist}
-use Rattle.walks.specs.LeastLaws.{best-dist, dist-turned, dist-sized, dist-unique}
+use Rattle.walks.proofs.LeastLaws.{best-dist, dist-turned, dist-sized, dist-unique}
 use Rattle.walks.specs.Through.{InS}
 use Rattle.rules.proofs.AndLaws.{and-yes, and-true}
 use Rattle.settling.specs.Labels.{none, lengthOf, arcsOf}

@@ -7,7 +7,7 @@ use mathlib.Core.Path.{_≡_, refl, sym, subst, ap, _∙_}
 use mathlib.Core.Logic.{_⊎_, inl, inr}
 use borrow.Author.Tests.{not-true, eq-eqb, ne-eqb}
 use Rattle.walks.specs.Settling.{Next}
-use Rattle.walks.specs.Scanning.{NoneBelow, NextBelow, none-pass, next-pass, none-take, next-keep, next-take, next-found, none-found}
+use Rattle.walks.proofs.Scanning.{NoneBelow, NextBelow, none-pass, next-pass, none-take, next-keep, next-take, next-found, none-found}
 use Rattle.settling.specs.declared.Labels.{Labels}
 use Rattle.frontier.specs.declared.Pick.the-variants.{Node, Nothing}
 use Rattle.settling.proofs.Choice.{either, cond-yes, cond-no, cond-by}

@@ -11,8 +11,8 @@ use lib.Dec.{eqb}
 use borrow.Author.Tests.{eqb-true, eqb-false}
 use Rattle.walks.specs.Rows.{Rows, Sound}
 use Rattle.walks.specs.Settling.{Next}
-use Rattle.walks.specs.Marking.{started}
-use Rattle.walks.specs.Limits.{count-room}
+use Rattle.walks.proofs.Marking.{started}
+use Rattle.walks.proofs.Limits.{count-room}
 use Rattle.settling.specs.declared.Labels.{Labels}
 use Rattle.settling.specs.declared.Outcome.{Outcome}
 use Rattle.frontier.specs.declared.Pick.{Pick}

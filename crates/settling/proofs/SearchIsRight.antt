@@ -10,12 +10,12 @@ use mathlib.Core.Logic.{inr}
 use mathlib.Core.List.{List, _++_}
 use lib.ListN.{length, drop}
 use Rattle.walks.specs.Walk.{Net, kept}
-use Rattle.walks.specs.WalkLaws.{kept-all}
+use Rattle.walks.proofs.WalkLaws.{kept-all}
 use Rattle.walks.specs.Rows.{Rows, network, Sound}
 use Rattle.walks.specs.Least.{Reached, Dist, Best}
-use Rattle.walks.specs.LeastLaws.{best-dist, dist-unique}
+use Rattle.walks.proofs.LeastLaws.{best-dist, dist-unique}
 use Rattle.walks.specs.Search.{Found, NoWalk}
-use Rattle.walks.specs.SettlingLaws.{settled-best, next-best, found-count, missed-count, reached-settled}
+use Rattle.walks.proofs.SettlingLaws.{settled-best, next-best, found-count, missed-count, reached-settled}
 use Rattle.settling.specs.declared.Outcome.{Outcome}
 use Rattle.settling.specs.Labels.{none, lengthOf, arcsOf}
 use Rattle.settling.specs.Run.{searchOf, labelsOf}

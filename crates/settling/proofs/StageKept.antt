@@ -9,11 +9,11 @@ use lib.Dec.{eqb}
 use borrow.Author.Tests.{eqb-true, eq-eqb}
 use Rattle.walks.specs.Walk.{kept}
 use Rattle.walks.specs.Rows.{Rows, at, network, Sound}
-use Rattle.walks.specs.Order.{notAfter-as}
-use Rattle.walks.specs.Limits.{sound-within, only-within, walk-light, few-arcs}
+use Rattle.walks.proofs.OrderLaws.{notAfter-as}
+use Rattle.walks.proofs.Limits.{sound-within, only-within, walk-light, few-arcs}
 use Rattle.walks.specs.Settling.{Next}
-use Rattle.walks.specs.Marking.{Relaxing, settle}
-use Rattle.walks.specs.Relaxing.{relax-none, relax-better, relaxed-all}
+use Rattle.walks.proofs.Marking.{Relaxing, settle}
+use Rattle.walks.proofs.Relaxing.{relax-none, relax-better, relaxed-all}
 use Rattle.settling.specs.declared.Labels.{Labels}
 use Rattle.settling.proofs.Choice.{cond-by}
 use Rattle.rules.proofs.AndLaws.{and-true, and-yes}

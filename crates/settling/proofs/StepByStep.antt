@@ -9,7 +9,7 @@ use mathlib.Core.List.{List}
 use lib.IntN.{ℤ}
 use lib.ListN.{getD, replicate}
 use Rattle.walks.specs.Rows.{Rows}
-use Rattle.walks.specs.Limits.{count-room}
+use Rattle.walks.proofs.Limits.{count-room}
 use Rattle.frontier.specs.declared.Pick.{Pick}
 use Rattle.frontier.specs.declared.Pick.the-variants.{Node, Nothing}
 use Rattle.frontier.specs.Tree.{keyOf, far, pickOf, Rekeyed}

@@ -14,7 +14,7 @@ use Rattle.walks.specs.Walk.{kept}
 use Rattle.walks.specs.Rows.{Rows, at, network, Sound}
 use Rattle.walks.specs.Route.{Route, start, into}
 use Rattle.walks.specs.Settling.{Next}
-use Rattle.walks.specs.Tracing.{Fits, fits-chosen, some-fits, traced-start, fits-settled}
+use Rattle.walks.proofs.Tracing.{Fits, fits-chosen, some-fits, traced-start, fits-settled}
 use Rattle.settling.specs.declared.Labels.{Labels}
 use Rattle.settling.specs.declared.Into.{Into}
 use Rattle.settling.specs.declared.Into.the-variants.{Arc, Nothing}

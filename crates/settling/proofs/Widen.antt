@@ -4,7 +4,8 @@ use native.Mathlib.Omega.{arith}
 use mathlib.Core.List.{List}
 use lib.IntN.{ℤ}
 use Rattle.frontier.specs.Chain.{Ends}
-use Rattle.walks.specs.Rows.{Rows, Sound, arc-at, turned-sound}
+use Rattle.walks.specs.Rows.{Rows, Sound}
+use Rattle.walks.proofs.RowsLaws.{arc-at, turned-sound}
 use Rattle.settling.specs.declared.Toward.{Toward}
 use Rattle.settling.specs.declared.Toward.the-variants.{Anywhere, Place}
 use Rattle.settling.specs.Toward.{Room}

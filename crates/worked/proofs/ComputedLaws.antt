@@ -19,7 +19,7 @@ use Rattle.settling.specs.Run.{searchOf}
 use Rattle.judging.specs.Order.{searchJudged, boxedJudged, buildJudged, checkJudged, updateJudged}
 use Rattle.judging.proofs.FineLaws.{SearchLent, search-fine, boxed-fine, build-fine, check-fine, update-fine}
 use Rattle.search.specs.Says.{Answers, Says, SearchSays, BoxedSays, refused, answered}
-use Rattle.search.specs.Networks.{answers-alike, all-arcs, held-arcs}
+use Rattle.search.proofs.Networks.{answers-alike, all-arcs, held-arcs}
 use Rattle.search.proofs.Answering.{found-answers, none-answers}
 use Rattle.boxwork.proofs.ReweightedLaws.{sound-reweighted}
 use Rattle.drawing.specs.declared.compare.Miss.{Miss}

@@ -5,7 +5,7 @@ use lib.ListN.{length}
 use Rattle.walks.specs.Rows.{rows}
 use Rattle.search.specs.Says.{refused, answered}
 use Rattle.judging.proofs.FineLaws.{SearchLent, search-fine}
-use Rattle.search.specs.Networks.{answers-alike, all-arcs}
+use Rattle.search.proofs.Networks.{answers-alike, all-arcs}
 use Rattle.search.proofs.search.Statement.{statement}
 use Rattle.search.proofs.search.Tie as tie
 

@@ -9,7 +9,7 @@ use Rattle.geometry.specs.Row.{coordinate}
 use Rattle.walks.specs.Rows.{rows}
 use Rattle.search.specs.Says.{refused, answered}
 use Rattle.judging.proofs.FineLaws.{SearchLent, boxed-fine}
-use Rattle.search.specs.Networks.{answers-alike, held-arcs}
+use Rattle.search.proofs.Networks.{answers-alike, held-arcs}
 use Rattle.search.proofs.search_boxed.Statement.{statement}
 use Rattle.search.proofs.search_boxed.Tie as tie
 

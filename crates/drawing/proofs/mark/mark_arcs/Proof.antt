@@ -2,7 +2,8 @@
 use Prim.Native.Nat.{_-_, _≤_}
 use mathlib.Core.Path.{_≡_}
 use native.Mathlib.Omega.{arith}
-use Rattle.walks.specs.Rows.{rows, arc-at}
+use Rattle.walks.specs.Rows.{rows}
+use Rattle.walks.proofs.RowsLaws.{arc-at}
 use Rattle.drawing.specs.Drawn.{Drawn, markRow}
 use Rattle.drawing.specs.Leads.{leadsAt, Marked}
 use Rattle.drawing.proofs.DrawnLaws.{drawn-none}

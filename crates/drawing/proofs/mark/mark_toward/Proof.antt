@@ -1,6 +1,6 @@
 -- `drawing::mark::mark_toward` meets its contract. Assumes nothing.
 use mathlib.Core.Path.{ap}
-use Rattle.walks.specs.Rows.{turned-sound}
+use Rattle.walks.proofs.RowsLaws.{turned-sound}
 use Rattle.settling.specs.declared.Labels.{Labels}
 use Rattle.settling.proofs.Widen.{widened}
 use Rattle.drawing.specs.Leads.{lengthsTo}

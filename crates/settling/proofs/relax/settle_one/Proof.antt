@@ -5,7 +5,8 @@ use native.Mathlib.Omega.{arith}
 use mathlib.Core.Path.{_≡_, refl, sym, _∙_}
 use mathlib.Core.Logic.{⊎-elim}
 use lib.ListN.{getD}
-use Rattle.walks.specs.Rows.{rows, SoundArc, arc-at}
+use Rattle.walks.specs.Rows.{rows, SoundArc}
+use Rattle.walks.proofs.RowsLaws.{arc-at}
 use Rattle.frontier.specs.Chain.{From}
 use Rattle.settling.specs.Labels.{labels, marked}
 use Rattle.settling.specs.Settle.{relaxed}

@@ -6,7 +6,8 @@ use mathlib.Core.Path.{_≡_, sym, _∙_}
 use mathlib.Core.Logic.{⊎-elim}
 use mathlib.Core.List.{[]}
 use lib.ListN.{getD}
-use Rattle.walks.specs.Rows.{rows, SoundArc, arc-at}
+use Rattle.walks.specs.Rows.{rows, SoundArc}
+use Rattle.walks.proofs.RowsLaws.{arc-at}
 use Rattle.frontier.specs.Chain.{From}
 use Rattle.settling.specs.Labels.{labels}
 use Rattle.settling.specs.Trace.{arcFits, intoOf}

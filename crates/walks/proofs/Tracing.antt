@@ -4,13 +4,14 @@ use mathlib.Core.Logic.{_⊎_, inl, inr}
 use Prim.Native.Nat.{ℕ, _+_, _≤_}
 use native.Mathlib.Omega.{arith}
 use Rattle.walks.specs.Walk.{Net}
-use Rattle.walks.specs.Order.{NotAfter, notAfter-trans, less-not, less-notAfter, less-add, less-before, notAfter-refl, notAfter-as, before-notAfter}
+use Rattle.walks.specs.Order.{NotAfter}
+use Rattle.walks.proofs.OrderLaws.{notAfter-trans, less-not, less-notAfter, less-add, less-before, notAfter-refl, notAfter-as, before-notAfter}
 use Rattle.walks.specs.Least.{Best}
-use Rattle.walks.specs.LeastLaws.{best-sized, best-length, best-count}
+use Rattle.walks.proofs.LeastLaws.{best-sized, best-length, best-count}
 use Rattle.walks.specs.Route.{Candidate, Chosen}
-use Rattle.walks.specs.RouteLaws.{no-arcs-start, some-candidate}
+use Rattle.walks.proofs.RouteLaws.{no-arcs-start, some-candidate}
 use Rattle.walks.specs.Settling.{Labelling, Progress, All, Next}
-use Rattle.walks.specs.SettlingLaws.{settled-best, next-best, next-first, earlier-settled}
+use Rattle.walks.proofs.SettlingLaws.{settled-best, next-best, next-first, earlier-settled}
 
 -- e is a candidate into v by the labels
 pub record Fits (N : Net) (L : Labelling) (v e : ℕ) : Type 0 where

@@ -3,12 +3,12 @@ use Prim.Native.Nat.{ℕ, _+_}
 use mathlib.Core.Path.{_≡_, refl, sym, ap}
 use mathlib.Core.List.{List}
 use Rattle.walks.specs.Walk.{Net, Walk, empty, then}
-use Rattle.walks.specs.WalkLaws.{sized, ends-at, longer}
+use Rattle.walks.proofs.WalkLaws.{sized, ends-at, longer}
 use Rattle.walks.specs.Least.{Reached, Dist, Best}
-use Rattle.walks.specs.LeastLaws.{best-at}
+use Rattle.walks.proofs.LeastLaws.{best-at}
 use Rattle.walks.specs.Through.{InS}
 use Rattle.walks.specs.Route.{Candidate, Route, start, into}
-use Rattle.walks.specs.Count.{count-same}
+use Rattle.walks.proofs.CountLaws.{count-same}
 use Rattle.walks.specs.Settled as counts
 use Rattle.walks.specs.Search.{Found, NoWalk}
 

@@ -6,7 +6,8 @@ use native.Mathlib.Omega.{arith}
 use Rattle.walks.specs.Walk.{Net, only, Walk, empty, then}
 use Rattle.walks.specs.Rows.{Rows, network, SoundArc, Sound}
 use Rattle.walks.specs.Through.{InS}
-use Rattle.walks.specs.Count.{Count, count-more, count-most}
+use Rattle.walks.specs.Count.{Count}
+use Rattle.walks.proofs.CountLaws.{count-more, count-most}
 use Rattle.walks.specs.Settling.{Labelling, Progress, Next}
 
 -- every arc joins nodes of 1..n, and its weight is within the limit

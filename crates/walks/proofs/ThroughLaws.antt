@@ -3,7 +3,7 @@ use Prim.Native.Nat.{ℕ}
 use native.Mathlib.Omega.{arith}
 use lib.ListN.{length}
 use Rattle.walks.specs.Walk.{Net, by-arc}
-use Rattle.walks.specs.WalkLaws.{single, join, by-walk, by-first, walk-by}
+use Rattle.walks.proofs.WalkLaws.{single, join, by-walk, by-first, walk-by}
 use Rattle.walks.specs.Through.{InS, Begins}
 
 module _ {N : Net} {e t : ℕ} where

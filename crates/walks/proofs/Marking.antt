@@ -5,9 +5,10 @@ use Prim.Native.Nat.{ℕ, suc, _+_, _≤_}
 use native.Mathlib.Omega.{arith}
 use native.Mathlib.Decide.{ℕ-discrete, map-dec}
 use Rattle.walks.specs.Walk.{Net, empty}
-use Rattle.walks.specs.WalkLaws.{sized, ends-at}
-use Rattle.walks.specs.Order.{NotAfter, notAfter-refl, notAfter-as, before-as, before-notAfter}
-use Rattle.walks.specs.Count.{count-none, count-more}
+use Rattle.walks.proofs.WalkLaws.{sized, ends-at}
+use Rattle.walks.specs.Order.{NotAfter}
+use Rattle.walks.proofs.OrderLaws.{notAfter-refl, notAfter-as, before-as, before-notAfter}
+use Rattle.walks.proofs.CountLaws.{count-none, count-more}
 use Rattle.walks.specs.Settling.{Labelling, Relaxed, Progress, All, Next}
 
 -- ---- The beginning: s alone has a label, and no node is settled

@@ -5,7 +5,7 @@ use native.Mathlib.Nat.{le-antisymm}
 use native.Mathlib.Omega.{arith}
 use native.Mathlib.Decide.{decLt}
 use Rattle.walks.specs.Walk.{Net, Walk, empty, reverse}
-use Rattle.walks.specs.WalkLaws.{sized, join, backward}
+use Rattle.walks.proofs.WalkLaws.{sized, join, backward}
 use Rattle.walks.specs.Order.{NotAfter}
 use Rattle.walks.specs.Least.{Dist, Best}
 

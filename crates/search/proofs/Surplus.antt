@@ -14,7 +14,8 @@ use Rattle.rules.specs.declared.Judged.{Judged}
 use Rattle.rules.specs.declared.Judged.the-variants.{Fine}
 use Rattle.walks.specs.Walk.{Net, kept}
 use Rattle.walks.specs.Rows.{Rows, network}
-use Rattle.walks.specs.Search.{Found, found-unique, not-both}
+use Rattle.walks.specs.Search.{Found}
+use Rattle.walks.proofs.SearchLaws.{found-unique, not-both}
 use Rattle.settling.proofs.Choice.{either}
 use Rattle.settling.specs.Run.{searchOf}
 use Rattle.settling.proofs.SearchIsRight.{search-found, search-missed}
@@ -22,10 +23,10 @@ use Rattle.judging.specs.Cut.{cut}
 use Rattle.judging.proofs.CutLaws.{place-cut, box-cut, search-judged-cut, boxed-judged-cut}
 use Rattle.judging.proofs.FineLaws.{SearchLent, search-fine, boxed-fine}
 use Rattle.search.specs.Says.{Answers, found, none, Says, refused, answered, SearchSays, BoxedSays, holding}
-use Rattle.search.specs.SaysLaws.{says-unique}
-use Rattle.search.specs.Alike.{Alike, other-way, found-alike, no-walk-alike}
-use Rattle.search.specs.Networks.{all-arcs, held-arcs}
-use Rattle.search.specs.Cut.{network-cut}
+use Rattle.search.proofs.SaysLaws.{says-unique}
+use Rattle.search.proofs.Alike.{Alike, other-way, found-alike, no-walk-alike}
+use Rattle.search.proofs.Networks.{all-arcs, held-arcs}
+use Rattle.search.proofs.Cut.{network-cut}
 
 -- ---- The route row
 

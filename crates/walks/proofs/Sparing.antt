@@ -3,9 +3,9 @@ use mathlib.Core.Path.{_≡_, sym}
 use Prim.Native.Nat.{ℕ, _+_}
 use native.Mathlib.Omega.{arith}
 use Rattle.walks.specs.Walk.{Net, Walk, then}
-use Rattle.walks.specs.WalkLaws.{single, join, starts-at}
+use Rattle.walks.proofs.WalkLaws.{single, join, starts-at}
 use Rattle.walks.specs.Least.{Dist}
-use Rattle.walks.specs.LeastLaws.{dist-sized, first-part, second-part}
+use Rattle.walks.proofs.LeastLaws.{dist-sized, first-part, second-part}
 use Rattle.walks.specs.Through.{InS, Consistent}
 
 -- e is an arc of some shortest walk from s to t

@@ -5,10 +5,11 @@ use Prim.Native.Nat.{ℕ, suc}
 use native.Mathlib.Omega.{arith}
 use native.Mathlib.Decide.{ℕ-discrete}
 use Rattle.walks.specs.Walk.{Net, Walk, empty, then}
-use Rattle.walks.specs.Order.{Less, NotAfter, notAfter-refl, notAfter-trans, notAfter-less, less-notAfter, less-not, less-weak, less-add, notAfter-both, notAfter-add, notAfter-as, before-as, before-notAfter, before-not}
+use Rattle.walks.specs.Order.{Less, NotAfter}
+use Rattle.walks.proofs.OrderLaws.{notAfter-refl, notAfter-trans, notAfter-less, less-notAfter, less-not, less-weak, less-add, notAfter-both, notAfter-add, notAfter-as, before-as, before-notAfter, before-not}
 use Rattle.walks.specs.Least.{Reached, Best}
-use Rattle.walks.specs.LeastLaws.{best-first, first-best, best-at, best-length, best-count}
-use Rattle.walks.specs.Count.{count-same}
+use Rattle.walks.proofs.LeastLaws.{best-first, first-best, best-at, best-length, best-count}
+use Rattle.walks.proofs.CountLaws.{count-same}
 use Rattle.walks.specs.Settled.{Earlier, Settled, found, missed}
 use Rattle.walks.specs.Settling.{Labelling, Relaxed, Progress, All, Next}
 

@@ -9,9 +9,9 @@ use native.Mathlib.Decide.{decLe}
 use lib.ListN.{length, getD, length-append, List·getD-append}
 use lib.Seq.{getD-append-seam}
 use Rattle.walks.specs.Walk.{Net, Walk, empty, then, WalkBy, by-none}
-use Rattle.walks.specs.WalkLaws.{single, by-sized, by-longer}
+use Rattle.walks.proofs.WalkLaws.{single, by-sized, by-longer}
 use Rattle.walks.specs.Least.{Best}
-use Rattle.walks.specs.LeastLaws.{best-length, best-count, best-start, best-at, best-sized, first-part-best}
+use Rattle.walks.proofs.LeastLaws.{best-length, best-count, best-start, best-at, best-sized, first-part-best}
 use Rattle.walks.specs.Route.{Candidate, Chosen, Route, start, into}
 
 -- ---- The route is one only

@@ -4,7 +4,8 @@ use mathlib.Core.Logic.{_≢_}
 use Prim.Native.Nat.{ℕ, suc, _≤_, _<_}
 use native.Mathlib.Omega.{arith}
 use native.Mathlib.Decide.{ℕ-discrete}
-use Rattle.walks.specs.Order.{Less, NotAfter, Before, less-before, less-notAfter, before-notAfter}
+use Rattle.walks.specs.Order.{Less, NotAfter, Before}
+use Rattle.walks.proofs.OrderLaws.{less-before, less-notAfter, before-notAfter}
 use Rattle.walks.specs.Settling.{Labelling, Next}
 
 -- no node below i is left to settle

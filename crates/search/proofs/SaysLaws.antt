@@ -6,7 +6,7 @@ use native.Mathlib.Omega.{arith}
 use Rattle.rules.specs.Paper.{Reply}
 use Rattle.rules.specs.declared.Judged.{Judged}
 use Rattle.walks.specs.Walk.{Net}
-use Rattle.walks.specs.Search.{found-unique, no-walk-unique, not-both}
+use Rattle.walks.proofs.SearchLaws.{found-unique, no-walk-unique, not-both}
 use Rattle.search.specs.Says.{Answers, found, none, Says, refused, answered}
 
 module _ {N : Net} {n s t : ℕ} {before : List ℕ} where

@@ -8,13 +8,13 @@ use native.Mathlib.Nat.{add-zero, le-antisymm}
 use native.Mathlib.Omega.{arith}
 use native.Mathlib.Decide.{decLe}
 use Rattle.walks.specs.Walk.{Net, Walk, empty, then, only}
-use Rattle.walks.specs.WalkLaws.{single, join, with-all}
+use Rattle.walks.proofs.WalkLaws.{single, join, with-all}
 use Rattle.walks.specs.Least.{Reached, Dist, Best}
-use Rattle.walks.specs.LeastLaws.{dist-sized, dist-unique, best-dist, some-dist}
+use Rattle.walks.proofs.LeastLaws.{dist-sized, dist-unique, best-dist, some-dist}
 use Rattle.walks.specs.Route.{Candidate, Route, start, into}
-use Rattle.walks.specs.RouteLaws.{route-best}
+use Rattle.walks.proofs.RouteLaws.{route-best}
 use Rattle.walks.specs.Through.{Consistent}
-use Rattle.walks.specs.Sparing.{Spares, OnShortest, Between, arc-on, on-into, on-tail, consistent-spares}
+use Rattle.walks.proofs.Sparing.{Spares, OnShortest, Between, arc-on, on-into, on-tail, consistent-spares}
 
 -- Two networks answer a search from s to t alike: length, arc count, route, and whether there is a walk
 pub record SameAnswers (N F : Net) (s t : ℕ) : Type 0 where

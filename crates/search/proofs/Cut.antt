@@ -4,7 +4,7 @@ use mathlib.Core.Path.{sym}
 use Rattle.walks.specs.Rows.{Rows, network}
 use Rattle.judging.specs.Cut.{cut}
 use Rattle.judging.proofs.CutLaws.{at-cut}
-use Rattle.search.specs.Alike.{Alike}
+use Rattle.search.proofs.Alike.{Alike}
 
 pub network-cut : (m : ℕ) (R : Rows) → Alike (network m R) (network m (cut m R))
 unfolding network

@@ -5,11 +5,12 @@ use Prim.Native.Nat.{ℕ, _+_}
 use native.Mathlib.Omega.{arith}
 use native.Mathlib.Decide.{ℕ-discrete, map-dec}
 use Rattle.walks.specs.Walk.{Net}
-use Rattle.walks.specs.WalkLaws.{sized, longer}
-use Rattle.walks.specs.Order.{Less, NotAfter, notAfter-refl, notAfter-trans, notAfter-less, less-weak, less-not, less-add, less-before, notAfter-as, before-as}
-use Rattle.walks.specs.Count.{count-same}
+use Rattle.walks.proofs.WalkLaws.{sized, longer}
+use Rattle.walks.specs.Order.{Less, NotAfter}
+use Rattle.walks.proofs.OrderLaws.{notAfter-refl, notAfter-trans, notAfter-less, less-weak, less-not, less-add, less-before, notAfter-as, before-as}
+use Rattle.walks.proofs.CountLaws.{count-same}
 use Rattle.walks.specs.Settling.{Labelling, Relaxed, Progress, All}
-use Rattle.walks.specs.Marking.{Relaxing}
+use Rattle.walks.proofs.Marking.{Relaxing}
 
 -- the same labels, when other arcs are told as seen and these are relaxed too
 told : {N : Net} {n s c : ℕ} {L : Labelling} {Seen Seen′ : ℕ → Type 0}

@@ -10,7 +10,7 @@ use Rattle.geometry.specs.Row.{boxOf, coordinate}
 use Rattle.geometry.proofs.Tests.{holds-yes, yes-holds}
 use Rattle.walks.specs.Walk.{Net, kept}
 use Rattle.search.specs.Says.{Answers, found, none, holding}
-use Rattle.search.specs.Alike.{Alike, found-alike, no-walk-alike}
+use Rattle.search.proofs.Alike.{Alike, found-alike, no-walk-alike}
 
 pub answers-alike : {N F : Net} {n s t : ℕ} {before after : List ℕ} {reply : Reply} → Alike N F → Answers N n s t before reply after → Answers F n s t before reply after
 answers-alike x (found f) = found (found-alike x f)
