@@ -13,6 +13,26 @@ use Rattle.search.specs.declared.Answer.{Answer}
 use Rattle.boxwork.specs.Says.{BuildSays, CheckSays, UpdateSays}
 use Rattle.replies.specs.Replies.{judgedLine, answerLine}
 use Rattle.calls.specs.declared.Sizes.{Sizes}
+use Rattle.calls.specs.declared.network.BoxWork.{BoxWork}
+use Rattle.calls.specs.declared.network.BoxWork.the-variants as work
+use Rattle.calls.specs.declared.network.Trip.{Trip}
+use Rattle.calls.specs.declared.network.Trip.the-variants as trip
+use Rattle.calls.specs.declared.network.Task.{Task}
+use Rattle.calls.specs.declared.network.Task.the-variants as task
+
+-- the call that box work, a search, either of them is
+abbrev pub workCall : BoxWork → Call
+workCall work.Build = call.Build
+workCall work.Check = call.Check
+workCall (work.Update arc weight) = call.Update arc weight
+
+abbrev pub tripCall : Trip → Call
+tripCall (trip.Plain s t) = call.Search s t
+tripCall (trip.Boxed s t) = call.Boxed s t
+
+abbrev pub taskCall : Task → Call
+taskCall (task.Boxes w) = workCall w
+taskCall (task.Route t) = tripCall t
 
 -- the contents of the rows that a call is given
 pub record Given : Type 0 where

@@ -3,7 +3,7 @@ use Prim.Native.Nat.{ℕ}
 use mathlib.Core.List.{List}
 use lib.IntN.{ℤ}
 use Rattle.files.specs.File.{Held}
-use Rattle.pages.specs.Page.{Replied}
+use Rattle.pages.specs.Page.{Printed, Replied}
 use Rattle.commands.specs.declared.Call.{Call}
 use Rattle.commands.specs.declared.Request.{Request}
 use Rattle.commands.specs.declared.Request.the-variants as request
@@ -41,6 +41,10 @@ AsksNoFile request.ReadGr = ⊥
 AsksNoFile request.ReadCo = ⊥
 AsksNoFile (request.Call c) = Unit
 AsksNoFile request.Help = Unit
+
+-- a request is met, where a file that it asks for holds `held`, and its reply stands on the page up to the place `end`
+abbrev pub Met : Held → Desk → Request → Desk → List ℕ → ℕ → List ℕ → Type 0
+Met held before asks after page end page′ = Printed (λ reply. Meets held before asks reply after) page end page′
 
 -- a request is met, for some contents of a file that it asks for, and its reply stands on the page up to the place `end`
 abbrev pub Obeyed : Desk → Request → Desk → List ℕ → ℕ → List ℕ → Type 0

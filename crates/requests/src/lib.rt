@@ -1,35 +1,42 @@
 // What the console does: a request is met with just the places that are lent, and its reply is put on a page.
 pub mod copies;
+pub mod texts;
 
 ghost use Prim.Native.Nat.{_≤_};
+ghost use lib.ListN.{length};
+ghost use Rattle.files.specs.File.{Within, heldIn};
 ghost use Rattle.lending.specs.Stores.{stores, Full};
 ghost use Rattle.requests.specs.Desk.{desk};
-ghost use Rattle.requests.specs.Requests.{Obeyed};
+ghost use Rattle.requests.specs.Requests.{Met, Obeyed};
 use crate::copies::call_on;
-use crate::copies::graph;
-use crate::copies::places;
+use crate::texts::graph;
+use crate::texts::places;
 use calls::Done;
 use calls::Sizes;
 use commands::Request;
+use commands::words::after_word;
+use files::File;
+use files::read_file;
 use lending::rows::Lent;
 use pages::PAGE;
 use replies::showing::show_row;
 use replies::words::put_help;
 use replies::words::put_ok;
 
-// Does what a line asks for with just the places that are lent. The line still has the name of a file.
-pub fn obey(
+// Does what a request asks for with just the places that are lent, and with what was read of a file.
+fn meet(
     page: &mut [u8; PAGE],
-    line: &[u8],
     request: Request,
+    text: &[u8],
+    file: File,
     sizes: Sizes,
     lent: Lent,
     counts: &mut [u32],
     numbers: &mut [i32],
     bytes: &mut [u8],
 ) -> Done
-    requires { ⌜ Full (stores (now counts) (now numbers) (now bytes)) ⌝ }
-    ensures { λ r. ⌜ Obeyed (desk sizes lent (now (counts .entry)) (now (numbers .entry)) (now (bytes .entry))) request (desk (r .sizes) lent (now (counts .exit)) (now (numbers .exit)) (now (bytes .exit))) (now (page .entry)) (r .end) (now (page .exit)) ⌝ }
+    requires { ⌜ Full (stores (now counts) (now numbers) (now bytes)) × Within (length (now text)) file ⌝ }
+    ensures { λ r. let before = desk sizes lent (now (counts .entry)) (now (numbers .entry)) (now (bytes .entry)) in let after = desk (r .sizes) lent (now (counts .exit)) (now (numbers .exit)) (now (bytes .exit)) in ⌜ Met (heldIn (now (text .entry)) file) before request after (now (page .entry)) (r .end) (now (page .exit)) ⌝ }
     ensures { λ r. ⌜ r .end ≤ 368640 ⌝ }
 {
     match request {
@@ -50,12 +57,12 @@ pub fn obey(
             return Done { sizes, end };
         }
         Request::ReadGr => {
-            return graph(page, line, sizes, lent, counts, numbers, bytes);
+            return graph(page, text, file, sizes, lent, counts, numbers, bytes);
         }
         Request::ReadCo => {
             return Done {
                 sizes,
-                end: places(page, line, sizes, lent, counts, numbers, bytes),
+                end: places(page, text, file, sizes, lent, counts, numbers, bytes),
             };
         }
         Request::Call(call) => {
@@ -67,6 +74,74 @@ pub fn obey(
                 sizes,
                 end: put_help(page),
             };
+        }
+    }
+}
+
+// Opens and reads the file that a line names, and meets the request.
+fn with_file(
+    page: &mut [u8; PAGE],
+    line: &[u8],
+    request: Request,
+    sizes: Sizes,
+    lent: Lent,
+    counts: &mut [u32],
+    numbers: &mut [i32],
+    bytes: &mut [u8],
+) -> Done
+    requires { ⌜ Full (stores (now counts) (now numbers) (now bytes)) ⌝ }
+    ensures { λ r. let before = desk sizes lent (now (counts .entry)) (now (numbers .entry)) (now (bytes .entry)) in let after = desk (r .sizes) lent (now (counts .exit)) (now (numbers .exit)) (now (bytes .exit)) in ⌜ Obeyed before request after (now (page .entry)) (r .end) (now (page .exit)) ⌝ }
+    ensures { λ r. ⌜ r .end ≤ 368640 ⌝ }
+{
+    let mut text = [0u8; 65537];
+    let file = read_file(after_word(line), &mut text);
+    meet(
+        page,
+        request,
+        &text,
+        file,
+        sizes,
+        lent,
+        counts,
+        numbers,
+        bytes,
+    )
+}
+
+// Does what a line asks for with just the places that are lent. The line still has the name of a file.
+pub fn obey(
+    page: &mut [u8; PAGE],
+    line: &[u8],
+    request: Request,
+    sizes: Sizes,
+    lent: Lent,
+    counts: &mut [u32],
+    numbers: &mut [i32],
+    bytes: &mut [u8],
+) -> Done
+    requires { ⌜ Full (stores (now counts) (now numbers) (now bytes)) ⌝ }
+    ensures { λ r. ⌜ Obeyed (desk sizes lent (now (counts .entry)) (now (numbers .entry)) (now (bytes .entry))) request (desk (r .sizes) lent (now (counts .exit)) (now (numbers .exit)) (now (bytes .exit))) (now (page .entry)) (r .end) (now (page .exit)) ⌝ }
+    ensures { λ r. ⌜ r .end ≤ 368640 ⌝ }
+{
+    match request {
+        Request::ReadGr => {
+            return with_file(page, line, request, sizes, lent, counts, numbers, bytes);
+        }
+        Request::ReadCo => {
+            return with_file(page, line, request, sizes, lent, counts, numbers, bytes);
+        }
+        _ => {
+            return meet(
+                page,
+                request,
+                line,
+                File::NoFile,
+                sizes,
+                lent,
+                counts,
+                numbers,
+                bytes,
+            );
         }
     }
 }
