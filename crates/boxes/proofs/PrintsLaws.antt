@@ -1,4 +1,4 @@
--- What is printed of what was read of the files. Assumes nothing.
+-- What is printed of what was read of the files.
 use Prim.Native.Nat.{ℕ}
 use mathlib.Core.Path.{_≡_, refl, sym, ap}
 use mathlib.Core.Bool.{true, false}

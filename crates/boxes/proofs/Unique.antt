@@ -1,4 +1,4 @@
--- For the same contents of the two files, one text is printed. Assumes nothing.
+-- For the same contents of the two files, one text is printed.
 use Prim.Native.Nat.{ℕ}
 use mathlib.Core.Path.{_≡_, refl, ap}
 use mathlib.Core.List.{List}

@@ -1,4 +1,4 @@
--- What `boxes` prints, over what `net.gr` and `net.co` hold. Assumes nothing: these are definitions.
+-- What `boxes` prints, over what `net.gr` and `net.co` hold.
 use Prim.Native.Nat.{ℕ}
 use mathlib.Core.Bool.{Bool, true, false}
 use mathlib.Core.List.{List}

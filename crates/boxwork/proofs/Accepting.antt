@@ -1,4 +1,4 @@
--- Calls that are accepted: what their replies tell, and that the boxes they leave are judged fine and hold their S(e). Assumes nothing.
+-- Calls that are accepted: what their replies tell, and that the boxes they leave are judged fine and hold their S(e).
 use Prim.Native.Nat.{ℕ, _≤_}
 use mathlib.Core.Path.{_≡_, refl, sym, ap}
 use mathlib.Core.List.{List, []}

@@ -1,4 +1,4 @@
--- Searches in two networks that answer alike agree in what they say. Assumes nothing.
+-- Searches in two networks that answer alike agree in what they say.
 use Prim.Native.Nat.{ℕ}
 use mathlib.Core.Path.{_≡_, refl, ap}
 use mathlib.Core.Logic.{_↔_}

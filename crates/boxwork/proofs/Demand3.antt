@@ -1,4 +1,4 @@
--- Demand 3 is so. Assumes nothing.
+-- Demand 3 is so.
 use Prim.Native.Nat.{ℕ}
 use mathlib.Core.Path.{_≡_, refl, subst, _∙_}
 use mathlib.Core.List.{List}

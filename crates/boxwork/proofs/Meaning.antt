@@ -1,4 +1,4 @@
--- What the loops of `drawing` leave is what the statements say: tight and updated boxes, and the first missed node. Assumes nothing.
+-- What the loops of `drawing` leave is what the statements say: tight and updated boxes, and the first missed node.
 use Prim.Native.Nat.{ℕ, _≤_}
 use mathlib.Core.Path.{_≡_, sym, ap, _∙_}
 use mathlib.Core.Logic.{_⊎_, inl, inr, ⊎-elim}

@@ -1,4 +1,4 @@
--- For each input one reply and one content of every lent row, refused calls too. Assumes nothing.
+-- For each input one reply and one content of every lent row, refused calls too.
 use Prim.Native.Nat.{ℕ}
 use mathlib.Core.Path.{_≡_, refl}
 use mathlib.Core.List.{List}

@@ -1,5 +1,5 @@
 -- Surplus is neither read nor written: build, check and update are those over the rows cut to the places that are needed, and the
--- places beyond keep their contents. Assumes nothing.
+-- places beyond keep their contents.
 use Prim.Native.Nat.{ℕ, zero, suc, _+_, _-_, _*_, _≤_, min}
 use mathlib.Core.Path.{_≡_, refl, sym, ap, _∙_, subst}
 use mathlib.Core.Logic.{inl, inr, ⊎-elim}

@@ -1,4 +1,4 @@
--- Laws of tight and updated boxes: there is one only, it holds S(e), and it is well shaped. Assumes nothing.
+-- Laws of tight and updated boxes: there is one only, it holds S(e), and it is well shaped.
 use Prim.Native.Nat.{ℕ, _≤_}
 use mathlib.Core.Path.{_≡_, refl, subst}
 use mathlib.Core.Logic.{_⊎_, inl, inr, ⊎-elim}

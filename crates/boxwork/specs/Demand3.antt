@@ -1,6 +1,6 @@
 -- Demand 3: the yes that can be trusted, in the club's words and order. `CheckSays`, `BuildSays`, `UpdateSays`, `SearchSays`
 -- and `BoxedSays` are what the contracts of `check`, `build`, `update`, `search` and `search_boxed` state, so these five are
--- about what the functions return. Each is proved, under the name that stands with it, in proofs/Demand3.antt. Assumes nothing.
+-- about what the functions return. Each is proved, under the name that stands with it, in proofs/Demand3.antt.
 use Prim.Native.Nat.{ℕ, _≤_}
 use mathlib.Core.Path.{_≡_}
 use mathlib.Core.Logic.{_↔_}

@@ -1,4 +1,4 @@
--- What build, check and update say: for each the one relation between what is lent, the reply and the rows afterwards. Assumes nothing.
+-- What build, check and update say: for each the one relation between what is lent, the reply and the rows afterwards.
 use Prim.Native.Nat.{ℕ, _-_}
 use mathlib.Core.Path.{_≡_}
 use mathlib.Core.List.{List, []}

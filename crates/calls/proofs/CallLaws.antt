@@ -1,4 +1,4 @@
--- What is said of a case holds of what is known to be that case. Assumes nothing.
+-- What is said of a case holds of what is known to be that case.
 use mathlib.Core.Path.{_≡_, sym, subst}
 use mathlib.Core.List.{List}
 use Prim.Native.Nat.{ℕ}

@@ -1,4 +1,4 @@
--- For the same rows and the same file, each call and each reading has one reply and leaves one content of the rows. Assumes nothing.
+-- For the same rows and the same file, each call and each reading has one reply and leaves one content of the rows.
 use Prim.Native.Nat.{ℕ}
 use mathlib.Core.Path.{_≡_, refl, ap}
 use mathlib.Core.List.{List}

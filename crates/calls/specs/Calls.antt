@@ -1,4 +1,4 @@
--- The calls on a network: what each is replied, and what it leaves in its rows. Assumes nothing: these are definitions.
+-- The calls on a network: what each is replied, and what it leaves in its rows.
 use Prim.Native.Nat.{ℕ}
 use mathlib.Core.List.{List}
 use lib.IntN.{ℤ}

@@ -1,4 +1,4 @@
--- Files that are read into rows: `gr` and `co`. Assumes nothing: these are definitions.
+-- Files that are read into rows: `gr` and `co`.
 use Prim.Native.Nat.{ℕ}
 use mathlib.Core.Path.{_≡_}
 use mathlib.Core.List.{List}

@@ -1,4 +1,4 @@
--- What the code reads word by word is what the definitions ask for. Assumes nothing.
+-- What the code reads word by word is what the definitions ask for.
 use mathlib.Core.Path.{_≡_, refl, sym, ap, _∙_}
 use mathlib.Core.List.{List}
 use mathlib.Core.Bool.{Bool, cond}

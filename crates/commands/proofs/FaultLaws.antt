@@ -1,4 +1,4 @@
--- Laws of a line's faults, as the code finds them. Assumes nothing.
+-- Laws of a line's faults, as the code finds them.
 use mathlib.Core.Path.{_≡_, sym, ap₂, _∙_}
 use mathlib.Core.List.{List}
 use mathlib.Core.Bool.{Bool, true, false, cond, _||_}

@@ -1,4 +1,4 @@
--- Laws of names that stand in one text, as the code sees them from a position on. Assumes nothing.
+-- Laws of names that stand in one text, as the code sees them from a position on.
 use mathlib.Core.Path.{_≡_, refl, sym, ap, _∙_}
 use mathlib.Core.List.{List, [], _∷_}
 use mathlib.Core.Bool.{true, false}

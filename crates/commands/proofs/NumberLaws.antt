@@ -1,4 +1,4 @@
--- Laws of the limits of 32 bits, by the tests of a number that is held. Assumes nothing.
+-- Laws of the limits of 32 bits, by the tests of a number that is held.
 use mathlib.Core.Path.{_≡_, refl, ap}
 use mathlib.Core.Bool.{cond}
 use Prim.Native.Nat.{ℕ, zero, suc, _+_, _-_, _≤_, _<_, min}

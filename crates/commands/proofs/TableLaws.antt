@@ -1,4 +1,4 @@
--- No two rows of the table share a place of a store, or a number; each row's name names it. Assumes nothing.
+-- No two rows of the table share a place of a store, or a number; each row's name names it.
 use Prim.Native.Nat.{ℕ, _+_}
 use mathlib.Core.Path.{_≡_, refl}
 use mathlib.Core.List.{List, [], _∷_, map}

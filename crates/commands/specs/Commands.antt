@@ -1,4 +1,4 @@
--- What a line of the console asks for, or its first fault. Assumes nothing: these are definitions.
+-- What a line of the console asks for, or its first fault.
 use Prim.Native.Nat.{ℕ}
 use Prim.Native.Char.{code}
 use mathlib.Core.List.{List, [], _∷_}

@@ -1,4 +1,4 @@
--- Numbers of 32 bits: the spelling of `scan`, with the true values, and then the limits of the type. Assumes nothing: these are definitions.
+-- Numbers of 32 bits: the spelling of `scan`, with the true values, and then the limits of the type.
 use Prim.Native.Nat.{ℕ}
 use mathlib.Core.Bool.{cond}
 use lib.Dec.{leb}

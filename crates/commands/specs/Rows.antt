@@ -1,4 +1,4 @@
--- The rows of the console: their names, what each holds, and where it stands. Assumes nothing: these are definitions.
+-- The rows of the console: their names, what each holds, and where it stands.
 use Prim.Native.Nat.{ℕ, _+_, _*_, _≤_, _<_}
 use mathlib.Core.List.{List, [], _∷_, map}
 use lib.IntN.{ℤ, pos}

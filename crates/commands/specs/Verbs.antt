@@ -1,4 +1,4 @@
--- The commands by their first words. Assumes nothing: these are definitions.
+-- The commands by their first words.
 use Prim.Native.Nat.{ℕ}
 use mathlib.Core.List.{List, [], _∷_}
 use mathlib.Core.Bool.{Bool, true, _||_}

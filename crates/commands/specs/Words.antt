@@ -1,4 +1,4 @@
--- The words of a line. Assumes nothing: these are definitions.
+-- The words of a line.
 use Prim.Native.Nat.{ℕ, suc, _+_}
 use Prim.Native.Char.{code}
 use mathlib.Core.List.{List, [], _∷_}

@@ -1,4 +1,4 @@
--- Laws of what is replied to a line. Assumes nothing.
+-- Laws of what is replied to a line.
 use Prim.Native.Nat.{ℕ}
 use mathlib.Core.Path.{_≡_, sym, subst, _∙_}
 use mathlib.Core.List.{List}

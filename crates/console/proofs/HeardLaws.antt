@@ -1,4 +1,4 @@
--- Laws of a line that was heard. Assumes nothing.
+-- Laws of a line that was heard.
 use Prim.Native.Nat.{ℕ}
 use mathlib.Core.Path.{_≡_, sym, ap, _∙_}
 use mathlib.Core.List.{List}

@@ -1,5 +1,4 @@
 -- For the same file, each line has one reply and leaves one content of everything; where it names no file, whatever files hold.
--- Assumes nothing.
 use Prim.Native.Nat.{ℕ, _+_}
 use mathlib.Core.Path.{_≡_, refl, sym, ap, _∙_}
 use mathlib.Core.List.{List}

@@ -1,4 +1,4 @@
--- What is replied to a line, and what becomes of everything that the console has. Assumes nothing: these are definitions.
+-- What is replied to a line, and what becomes of everything that the console has.
 use Prim.Native.Nat.{ℕ}
 use mathlib.Core.Path.{_≡_}
 use mathlib.Core.List.{List}

@@ -1,4 +1,4 @@
--- What a line of the input asks for. Assumes nothing: these are definitions.
+-- What a line of the input asks for.
 use Prim.Native.Nat.{ℕ}
 use mathlib.Core.List.{List}
 use mathlib.Core.Bool.{cond}

@@ -1,4 +1,4 @@
--- What the console keeps from one line to the next. Assumes nothing: these are definitions.
+-- What the console keeps from one line to the next.
 use Rattle.lending.specs.Stores.{allLent}
 use Rattle.console.specs.declared.state.State.{State}
 

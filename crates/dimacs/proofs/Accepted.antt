@@ -1,4 +1,4 @@
--- An accepted text's rows satisfy all limits, so that refusals 5, 8 and 9 of the other parts cannot follow a reading. Assumes nothing.
+-- An accepted text's rows satisfy all limits, so that refusals 5, 8 and 9 of the other parts cannot follow a reading.
 use mathlib.Core.Path.{_≡_, refl, sym, ap, _∙_}
 use mathlib.Core.List.{List, [], _∷_, _++_, map}
 use mathlib.Core.Bool.{true, _&&_}

@@ -1,4 +1,4 @@
--- Every format's rules are fair, and lines that are held alike are judged alike: reading goes by true values. Assumes nothing.
+-- Every format's rules are fair, and lines that are held alike are judged alike: reading goes by true values.
 use mathlib.Core.Path.{_≡_, refl, ap, _∙_}
 use mathlib.Core.List.{List}
 use mathlib.Core.Bool.{Bool, true, false, _&&_, not}

@@ -1,4 +1,4 @@
--- Laws of reading a text line by line, for any format. Assumes nothing.
+-- Laws of reading a text line by line, for any format.
 use mathlib.Core.Path.{_≡_, refl, sym, ap, _∙_}
 use mathlib.Core.List.{List}
 use mathlib.Core.Bool.{Bool, true, false, cond}

@@ -1,4 +1,4 @@
--- Laws of the readers' replies and of the rows that they leave. Assumes nothing.
+-- Laws of the readers' replies and of the rows that they leave.
 use mathlib.Core.Path.{_≡_, sym, _∙_}
 use mathlib.Core.List.{List, _++_, map}
 use mathlib.Core.Bool.{Bool, true, false, _&&_}

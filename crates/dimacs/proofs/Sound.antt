@@ -1,4 +1,4 @@
--- What an accepted text's lines satisfy, for any format: limits, counts, and each node once. Assumes nothing.
+-- What an accepted text's lines satisfy, for any format: limits, counts, and each node once.
 use mathlib.Core.Path.{_≡_, refl, sym, ap, _∙_}
 use mathlib.Core.List.{List, [], _∷_}
 use mathlib.Core.Bool.{Bool, true, false, cond}

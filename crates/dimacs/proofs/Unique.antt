@@ -1,4 +1,4 @@
--- Each call of a reader has one reply and one content of every lent row, refused calls too. Assumes nothing.
+-- Each call of a reader has one reply and one content of every lent row, refused calls too.
 use mathlib.Core.Path.{_≡_, refl, sym, ap, _∙_}
 use mathlib.Core.List.{List, [], _∷_}
 use Prim.Native.Nat.{ℕ}

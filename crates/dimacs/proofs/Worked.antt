@@ -1,4 +1,4 @@
--- The worked files of the paper are read with exactly their rows, and its malformed lines refused. Assumes nothing.
+-- The worked files of the paper are read with exactly their rows, and its malformed lines refused.
 use mathlib.Core.Path.{_≡_, refl}
 use mathlib.Core.List.{List, [], _∷_, _++_}
 use mathlib.Core.Bool.{true, _&&_}

@@ -1,4 +1,4 @@
--- The coordinate format: the forms of a line, and its limits. Assumes nothing: these are definitions.
+-- The coordinate format: the forms of a line, and its limits.
 use Prim.Native.Nat.{ℕ}
 use mathlib.Core.List.{List}
 use mathlib.Core.Bool.{true}

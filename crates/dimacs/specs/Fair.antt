@@ -1,4 +1,4 @@
--- What holds of every format's rules, as the proofs need it. No public statement cites this. Assumes nothing: these are definitions.
+-- What holds of every format's rules, as the proofs need it. No public statement cites this.
 use Prim.Native.Nat.{_≤_, _<_}
 use mathlib.Core.Path.{_≡_}
 use mathlib.Core.Bool.{true}

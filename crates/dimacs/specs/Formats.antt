@@ -1,4 +1,4 @@
--- The formats. A further one adds its forms and its rules here. Assumes nothing: these are definitions.
+-- The formats. A further one adds its forms and its rules here.
 use Prim.Native.Nat.{ℕ}
 use mathlib.Core.List.{List}
 use Rattle.scan.specs.declared.line.Line.{Line}

@@ -1,4 +1,4 @@
--- The graph format: the forms of a line, and its limits. Assumes nothing: these are definitions.
+-- The graph format: the forms of a line, and its limits.
 use Prim.Native.Nat.{ℕ}
 use mathlib.Core.List.{List}
 use mathlib.Core.Bool.{false}

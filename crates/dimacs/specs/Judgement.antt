@@ -1,4 +1,4 @@
--- The judgement of a line, in the paper's order: 3, 4, 5, 7, 6. Assumes nothing: these are definitions.
+-- The judgement of a line, in the paper's order: 3, 4, 5, 7, 6.
 use Prim.Native.Nat.{ℕ, _-_}
 use mathlib.Core.List.{List, [], _∷_}
 use mathlib.Core.Bool.{Bool, false, _&&_, not}

@@ -1,4 +1,4 @@
--- What the readers promise: the paper's reply, and the contents of each lent row as it is left. Assumes nothing: these are definitions.
+-- What the readers promise: the paper's reply, and the contents of each lent row as it is left.
 use Prim.Native.Nat.{ℕ}
 use mathlib.Core.Path.{_≡_}
 use mathlib.Core.List.{List}

@@ -1,4 +1,4 @@
--- The readers: what is judged before the first line, the text, and what the paper is told. Assumes nothing: these are definitions.
+-- The readers: what is judged before the first line, the text, and what the paper is told.
 use Prim.Native.Nat.{ℕ}
 use mathlib.Core.List.{List, [], _∷_}
 use mathlib.Core.Bool.{_&&_}

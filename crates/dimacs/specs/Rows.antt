@@ -1,4 +1,4 @@
--- The rows that are lent, after reading. Assumes nothing: these are definitions.
+-- The rows that are lent, after reading.
 use mathlib.Core.List.{List, _++_, map}
 use lib.ListN.{length, drop}
 use Rattle.scan.specs.declared.holding.Numbers.{Numbers}

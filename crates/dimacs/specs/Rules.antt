@@ -1,4 +1,4 @@
--- Which number of a line, and the limits of the numbers on it. Assumes nothing: these are definitions.
+-- Which number of a line, and the limits of the numbers on it.
 use Prim.Native.Nat.{ℕ}
 use mathlib.Core.Bool.{Bool, _&&_}
 use lib.Dec.{leb}

@@ -1,4 +1,4 @@
--- A whole text: its lines are judged from the first, and the first refusal decides. Assumes nothing: these are definitions.
+-- A whole text: its lines are judged from the first, and the first refusal decides.
 use Prim.Native.Nat.{ℕ, _+_, _-_}
 use mathlib.Core.List.{List, [], _∷_}
 use mathlib.Core.Bool.{Bool, true, false, cond}

@@ -1,4 +1,4 @@
--- Laws of rows drawn anew: arc by arc, one drawing after another, and that there is one such row only. Assumes nothing.
+-- Laws of rows drawn anew: arc by arc, one drawing after another, and that there is one such row only.
 use Prim.Native.Nat.{ℕ, _+_, _-_, _*_, _/_, _%_, _≤_, _<_}
 use mathlib.Core.Path.{_≡_, refl, sym, ap, _∙_, subst}
 use mathlib.Core.List.{List}

@@ -1,4 +1,4 @@
--- A box grown by places is the smallest that holds what it held and those. Assumes nothing.
+-- A box grown by places is the smallest that holds what it held and those.
 use Prim.Native.Nat.{ℕ, zero, suc, _≤_}
 use mathlib.Core.Path.{_≡_}
 use mathlib.Core.Logic.{_⊎_, inl, inr, ⊎-elim}

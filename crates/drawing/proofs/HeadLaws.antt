@@ -1,4 +1,4 @@
--- The head of the arc at a place, and what it makes of the arc's box. Assumes nothing.
+-- The head of the arc at a place, and what it makes of the arc's box.
 use Prim.Native.Nat.{ℕ, _+_, _-_, _≤_, _<_}
 use mathlib.Core.Path.{_≡_, refl}
 use mathlib.Core.Bool.{Bool, cond}

@@ -1,4 +1,4 @@
--- The first node that a box misses, found node by node. Assumes nothing.
+-- The first node that a box misses, found node by node.
 use Prim.Native.Nat.{ℕ, _+_, _-_, _≤_, _<_}
 use mathlib.Core.Path.{_≡_, refl, ap, _∙_}
 use mathlib.Core.Bool.{Bool, true, false}

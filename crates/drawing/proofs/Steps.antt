@@ -1,4 +1,4 @@
--- The loops' steps: what one arc, and one node, adds. Assumes nothing.
+-- The loops' steps: what one arc, and one node, adds.
 use Prim.Native.Nat.{ℕ, suc, _+_, _-_, _*_, _≤_, _<_}
 use mathlib.Core.Path.{_≡_, refl, sym, ap, subst, _∙_}
 use mathlib.Core.Bool.{Bool, true, false}

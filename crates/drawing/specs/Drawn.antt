@@ -1,4 +1,4 @@
--- Rows that have an entry for each arc, drawn anew. Assumes nothing.
+-- Rows that have an entry for each arc, drawn anew.
 use Prim.Native.Nat.{ℕ, _-_, _*_, _≤_}
 use mathlib.Core.Path.{_≡_}
 use mathlib.Core.Bool.{Bool, false}

@@ -1,4 +1,4 @@
--- Boxes grown by places. Assumes nothing.
+-- Boxes grown by places.
 use Prim.Native.Nat.{ℕ, zero, suc}
 use mathlib.Core.Path.{_≡_}
 use mathlib.Core.Bool.{Bool, cond}

@@ -1,4 +1,4 @@
--- Boxes and their arcs' heads. Assumes nothing.
+-- Boxes and their arcs' heads.
 use Prim.Native.Nat.{ℕ, _≤_}
 use mathlib.Core.Path.{_≡_}
 use mathlib.Core.Bool.{Bool, cond}

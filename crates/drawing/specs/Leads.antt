@@ -1,4 +1,4 @@
--- S(e) by the lengths to t, which are those of the labels of a search from t in the reverse network. Assumes nothing.
+-- S(e) by the lengths to t, which are those of the labels of a search from t in the reverse network.
 use Prim.Native.Nat.{ℕ}
 use mathlib.Core.Path.{_≡_}
 use mathlib.Core.Bool.{Bool}

@@ -1,4 +1,4 @@
--- The first node that a box misses. Assumes nothing.
+-- The first node that a box misses.
 use Prim.Native.Nat.{ℕ, _+_, _≤_, _<_}
 use mathlib.Core.Path.{_≡_}
 use mathlib.Core.Bool.{Bool, true, false, not, _&&_}

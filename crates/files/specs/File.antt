@@ -1,4 +1,4 @@
--- What a file holds, and what reading it answers. Assumes nothing: these are definitions.
+-- What a file holds, and what reading it answers.
 use Prim.Native.Nat.{ℕ, _≤_}
 use mathlib.Core.List.{List}
 use lib.ListN.{take}

@@ -1,4 +1,4 @@
--- Going along a chain instead of along all places. Assumes nothing.
+-- Going along a chain instead of along all places.
 use Prim.Native.Nat.{ℕ, zero, suc, _+_, _-_, _<_, _≤_}
 use native.Mathlib.Omega.{arith}
 use mathlib.Core.Path.{_≡_}

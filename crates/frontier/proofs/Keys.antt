@@ -1,4 +1,4 @@
--- The lesser of two keys, and the node of a key. Assumes nothing.
+-- The lesser of two keys, and the node of a key.
 use Prim.Native.Nat.{ℕ, _%_, _<_, _≤_}
 use native.Mathlib.Omega.{arith}
 use native.Mathlib.Decide.{decLt}

@@ -1,4 +1,4 @@
--- The leaves of a tree: place 1 has the least of their keys; how they are when one gets another key. Assumes nothing.
+-- The leaves of a tree: place 1 has the least of their keys; how they are when one gets another key.
 use Prim.Native.Nat.{ℕ, zero, suc, _+_, _*_, _-_, _/_, _<_, _≤_}
 use native.Mathlib.Omega.{arith}
 use native.Mathlib.Decide.{ℕ-discrete, decLe}

@@ -1,4 +1,4 @@
--- Linking the arcs, from the last to the first. Assumes nothing.
+-- Linking the arcs, from the last to the first.
 use Prim.Native.Nat.{ℕ, _+_, _-_, _<_, _≤_}
 use native.Mathlib.Omega.{arith}
 use native.Mathlib.Decide.{ℕ-discrete}

@@ -1,4 +1,4 @@
--- Lowering a leaf's key: the places above it get the new key as far as theirs are greater. Assumes nothing.
+-- Lowering a leaf's key: the places above it get the new key as far as theirs are greater.
 use Prim.Native.Nat.{ℕ, _+_, _*_, _/_, _<_, _≤_}
 use native.Mathlib.Omega.{arith}
 use native.Mathlib.Decide.{ℕ-discrete}

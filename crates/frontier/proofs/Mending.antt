@@ -1,4 +1,4 @@
--- Mending the places above one whose key has changed. Assumes nothing.
+-- Mending the places above one whose key has changed.
 use Prim.Native.Nat.{ℕ, _+_, _*_, _/_, _<_, _≤_}
 use native.Mathlib.Omega.{arith}
 use native.Mathlib.Decide.{ℕ-discrete}

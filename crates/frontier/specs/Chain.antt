@@ -1,4 +1,4 @@
--- The arcs of each node in a chain of places. Assumes nothing.
+-- The arcs of each node in a chain of places.
 use Prim.Native.Nat.{ℕ, _+_, _-_, _<_, _≤_}
 use mathlib.Core.Path.{_≡_}
 use mathlib.Core.List.{List}

@@ -1,5 +1,4 @@
 -- A tree of keys. The two places below place i are 2 * i and 2 * i + 1; leaf v, for node v + 1, stands at place 512 + v.
--- Assumes nothing.
 use Prim.Native.Nat.{ℕ, _+_, _*_, _%_, _<_, _≤_}
 use mathlib.Core.Bool.{cond}
 use mathlib.Core.Path.{_≡_}

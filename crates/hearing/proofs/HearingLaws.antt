@@ -1,4 +1,4 @@
--- Laws of a line that is heard byte by byte. Assumes nothing.
+-- Laws of a line that is heard byte by byte.
 use Prim.Native.Nat.{ℕ, suc, _+_, _-_, _≤_, _<_, min}
 use mathlib.Core.Path.{_≡_, refl, sym, ap, subst, _∙_}
 use mathlib.Core.Logic.{_⊎_, inl, inr}

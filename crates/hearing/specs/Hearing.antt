@@ -1,4 +1,4 @@
--- The lines of the input. Assumes nothing: these are definitions.
+-- The lines of the input.
 use Prim.Native.Nat.{ℕ, zero, suc, _+_, _-_, _≤_, _<_, min}
 use mathlib.Core.Path.{_≡_}
 use mathlib.Core.Logic.{_⊎_}

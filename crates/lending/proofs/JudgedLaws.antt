@@ -1,4 +1,4 @@
--- Laws of words that are judged to be numbers. Assumes nothing.
+-- Laws of words that are judged to be numbers.
 use Prim.Native.Nat.{ℕ, zero, suc, _≤_, _<_}
 use mathlib.Core.Path.{_≡_, refl, sym, ap, _∙_}
 use mathlib.Core.List.{List, [], _∷_}

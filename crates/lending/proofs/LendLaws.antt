@@ -1,4 +1,4 @@
--- Laws of lines that ask for `lend`. Assumes nothing.
+-- Laws of lines that ask for `lend`.
 use Prim.Native.Nat.{ℕ, _≤_}
 use mathlib.Core.Path.{_≡_, refl, ap, subst, _∙_}
 use mathlib.Core.List.{List, [], _∷_}

@@ -1,4 +1,4 @@
--- Laws of stretches. Assumes nothing.
+-- Laws of stretches.
 use Prim.Native.Nat.{ℕ, _+_, _-_, _≤_, _<_, min}
 use mathlib.Core.Path.{_≡_, refl, sym, ap, subst, _∙_}
 use mathlib.Core.List.{List, [], _++_, map, append-nil}

@@ -1,4 +1,4 @@
--- Laws of rows that are filled from the first place on, for numbers of any kind. Assumes nothing.
+-- Laws of rows that are filled from the first place on, for numbers of any kind.
 use Prim.Native.Nat.{ℕ, zero, suc, _+_, _≤_, _<_}
 use mathlib.Core.Path.{_≡_, refl, sym, ap, _∙_}
 use mathlib.Core.List.{List, [], _∷_, _++_, map, append-nil, append-assoc}

@@ -1,4 +1,4 @@
--- `lend`: the values that words spell. Assumes nothing: these are definitions.
+-- `lend`: the values that words spell.
 use Prim.Native.Nat.{ℕ}
 use mathlib.Core.List.{List, map}
 use lib.IntN.{ℤ, pos}

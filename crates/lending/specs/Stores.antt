@@ -1,4 +1,4 @@
--- The console's stores, the rows that stand in them, and what is lent of a row. Assumes nothing: these are definitions.
+-- The console's stores, the rows that stand in them, and what is lent of a row.
 use Prim.Native.Nat.{ℕ, _+_, min}
 use mathlib.Core.Path.{_≡_}
 use mathlib.Core.List.{List, _++_}

@@ -1,4 +1,4 @@
--- The listing that `boxes` prints. Assumes nothing: these are definitions.
+-- The listing that `boxes` prints.
 use Prim.Native.Nat.{ℕ, zero, suc, _+_, _*_}
 use mathlib.Core.List.{List, [], _++_}
 use lib.IntN.{ℤ, pos}

@@ -1,4 +1,4 @@
--- A byte has at most three digits. Assumes nothing.
+-- A byte has at most three digits.
 use mathlib.Core.Path.{ap, _∙_}
 use mathlib.Core.List.{List, [], _∷_, _++_}
 use Prim.Native.Nat.{ℕ, _+_, _*_, _/_, _%_, _≤_, _<_}

@@ -1,4 +1,4 @@
--- The digits that io writes are the definition's. Assumes nothing.
+-- The digits that io writes are the definition's.
 use Prim.Native.Nat.{ℕ, zero, suc, _-_, _*_, _/_, _%_, _^_, _≤_, _<_}
 use mathlib.Core.Path.{_≡_, refl}
 use mathlib.Core.List.{_∷_}

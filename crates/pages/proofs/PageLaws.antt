@@ -1,4 +1,4 @@
--- Laws of texts that are put on a page. Assumes nothing.
+-- Laws of texts that are put on a page.
 use Prim.Native.Nat.{ℕ, suc, _+_, _-_, _≤_, _<_}
 use Prim.Native.Char.{code}
 use mathlib.Core.Path.{_≡_, refl, sym, ap, subst, _∙_}

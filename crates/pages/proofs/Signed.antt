@@ -1,4 +1,4 @@
--- An i32 in 64 bits, and its size. Assumes nothing.
+-- An i32 in 64 bits, and its size.
 use Prim.Native.Nat.{zero, suc, _+_, _≤_}
 use mathlib.Core.Path.{_≡_, refl, sym, subst, _∙_}
 use mathlib.Core.Bool.{Bool, true, false, not}

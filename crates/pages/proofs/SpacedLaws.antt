@@ -1,4 +1,4 @@
--- Laws of values that stand each after a space. Assumes nothing.
+-- Laws of values that stand each after a space.
 use Prim.Native.Nat.{ℕ, _+_, _<_}
 use Prim.Native.Char.{code}
 use mathlib.Core.Path.{_≡_, sym, ap, _∙_}

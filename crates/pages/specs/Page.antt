@@ -1,4 +1,4 @@
--- Texts that are put on a page. Assumes nothing: these are definitions.
+-- Texts that are put on a page.
 use Prim.Native.Nat.{ℕ, _+_}
 use mathlib.Core.Path.{_≡_}
 use mathlib.Core.List.{List, [], _∷_}

@@ -1,4 +1,4 @@
--- Rows of numbers as text. Assumes nothing: these are definitions.
+-- Rows of numbers as text.
 use Prim.Native.Nat.{ℕ}
 use mathlib.Core.List.{List, [], _∷_, _++_}
 use lib.IntN.{ℤ}

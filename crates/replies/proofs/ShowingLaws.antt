@@ -1,4 +1,4 @@
--- What is shown of a row, once it is known whether enough is lent. Assumes nothing.
+-- What is shown of a row, once it is known whether enough is lent.
 use Prim.Native.Nat.{ℕ, _*_, _≤_, _<_}
 use mathlib.Core.Path.{_≡_, sym, ap, subst, _∙_}
 use native.Mathlib.Omega.{arith}

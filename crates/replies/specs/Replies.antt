@@ -1,4 +1,4 @@
--- What the console replies, one line each. Assumes nothing: these are definitions.
+-- What the console replies, one line each.
 use Prim.Native.Nat.{ℕ}
 use mathlib.Core.List.{List, _++_}
 use lib.ListN.{take}

@@ -1,4 +1,4 @@
--- What `show` replies. Assumes nothing: these are definitions.
+-- What `show` replies.
 use Prim.Native.Nat.{ℕ}
 use mathlib.Core.List.{List, _++_}
 use mathlib.Core.Bool.{cond}

@@ -1,4 +1,4 @@
--- Rows that are given back as they were leave the desk as it was. Assumes nothing.
+-- Rows that are given back as they were leave the desk as it was.
 use Prim.Native.Nat.{ℕ, zero, suc, _+_, _≤_}
 use mathlib.Core.Path.{_≡_, refl, ap}
 use mathlib.Core.List.{List, [], _∷_, _++_}

@@ -1,4 +1,4 @@
--- What is said of the rows that were copied is said of the desk. Assumes nothing.
+-- What is said of the rows that were copied is said of the desk.
 use mathlib.Core.Path.{_≡_, sym, subst}
 use mathlib.Core.List.{List}
 use Prim.Native.Nat.{ℕ, _≤_}

@@ -1,5 +1,5 @@
 -- For the same desk and the same file, each request has one reply and leaves one desk; where it asks for no file, whatever
--- files hold. Assumes nothing.
+-- files hold.
 use mathlib.Core.Path.{_≡_, refl}
 use mathlib.Core.List.{List}
 use Prim.Native.Nat.{ℕ}

@@ -1,4 +1,4 @@
--- What lies on the console's desk when a request is met. Assumes nothing: these are definitions.
+-- What lies on the console's desk when a request is met.
 use Prim.Native.Nat.{ℕ}
 use mathlib.Core.List.{List}
 use lib.IntN.{ℤ}

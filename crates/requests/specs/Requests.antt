@@ -1,4 +1,4 @@
--- What is replied to a request, and what it leaves on the desk. Assumes nothing: these are definitions.
+-- What is replied to a request, and what it leaves on the desk.
 use Prim.Native.Nat.{ℕ}
 use mathlib.Core.List.{List}
 use lib.IntN.{ℤ}

@@ -1,4 +1,4 @@
--- No two refusals have the same number and values, and none has the number of an accepted call. Assumes nothing.
+-- No two refusals have the same number and values, and none has the number of an accepted call.
 use Prim.Native.Nat.{ℕ, zero, suc, _+_, _≤_}
 use mathlib.Core.Path.{_≡_, refl, sym, ap, _∙_}
 use mathlib.Core.Logic.{_⊎_, inl, inr}

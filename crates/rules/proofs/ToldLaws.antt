@@ -1,4 +1,4 @@
--- Laws of what is told of a refusal. Assumes nothing.
+-- Laws of what is told of a refusal.
 use Prim.Native.Nat.{ℕ, _≤_}
 use mathlib.Core.Path.{_≡_, refl, sym, ap, subst, _∙_}
 use native.Mathlib.Omega.{arith}

@@ -1,4 +1,4 @@
--- What the paper says of each refusal: its number, and the values that are returned with it. Assumes nothing.
+-- What the paper says of each refusal: its number, and the values that are returned with it.
 use Prim.Native.Nat.{ℕ}
 use mathlib.Core.List.{List, [], _∷_}
 use Rattle.rules.specs.declared.Refusal.{Refusal}

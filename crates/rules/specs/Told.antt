@@ -1,4 +1,4 @@
--- A refusal's number and values as the code hands them on. Assumes nothing: these are definitions.
+-- A refusal's number and values as the code hands them on.
 use mathlib.Core.List.{[], _∷_, _++_}
 use lib.ListN.{length, take}
 use Rattle.rules.specs.Paper.{Reply}

@@ -1,4 +1,4 @@
--- The text of a number by its last digit. Assumes nothing.
+-- The text of a number by its last digit.
 use mathlib.Core.Path.{_≡_, ap}
 use mathlib.Core.List.{List, [], _∷_, _++_}
 use mathlib.Core.Bool.{cond}

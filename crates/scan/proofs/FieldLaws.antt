@@ -1,4 +1,4 @@
--- Laws of one field of a line, and of how its number is held. Assumes nothing.
+-- Laws of one field of a line, and of how its number is held.
 use mathlib.Core.Path.{_≡_, refl, ap, _∙_}
 use mathlib.Core.List.{List}
 use mathlib.Core.Bool.{Bool, true, false, cond, _&&_}

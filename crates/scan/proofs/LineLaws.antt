@@ -1,4 +1,4 @@
--- Laws of the lines of a format. Assumes nothing.
+-- Laws of the lines of a format.
 use mathlib.Core.Path.{_≡_, refl, ap, _∙_}
 use mathlib.Core.List.{List, [], _∷_}
 use mathlib.Core.Bool.{true, false}

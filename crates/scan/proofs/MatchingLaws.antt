@@ -1,4 +1,4 @@
--- Laws of the fields of a line, as they are read from left to right. Assumes nothing.
+-- Laws of the fields of a line, as they are read from left to right.
 use mathlib.Core.Path.{_≡_, refl, sym, ap, _∙_}
 use mathlib.Core.Logic.{⊎-elim}
 use mathlib.Core.List.{List, [], _∷_}

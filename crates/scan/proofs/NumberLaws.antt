@@ -1,4 +1,4 @@
--- Laws of digits, of numbers as they are held, and of signs. Assumes nothing.
+-- Laws of digits, of numbers as they are held, and of signs.
 use mathlib.Core.Path.{_≡_, refl}
 use mathlib.Core.List.{List, [], _∷_}
 use mathlib.Core.Bool.{Bool, true, false, cond, _&&_}

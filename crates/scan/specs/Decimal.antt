@@ -1,4 +1,4 @@
--- Numbers as text: what `naturalOf` and `integerOf` read. Assumes nothing: these are definitions.
+-- Numbers as text: what `naturalOf` and `integerOf` read.
 use Prim.Native.Nat.{ℕ, zero, suc, _+_, _/_, _%_}
 use Prim.Native.Char.{code}
 use mathlib.Core.List.{List, [], _∷_, _++_}

@@ -1,4 +1,4 @@
--- The fields of a line, read from left to right where its form has fields; the first fault decides. Assumes nothing: these are definitions.
+-- The fields of a line, read from left to right where its form has fields; the first fault decides.
 use Prim.Native.Nat.{ℕ, _+_, _-_}
 use Prim.Native.Char.{code}
 use mathlib.Core.List.{List, [], _∷_}

@@ -1,5 +1,5 @@
 -- How the code holds numbers that are too large for it. No public statement cites this: two lines that are held alike
--- are judged alike (dimacs), and so are two words of a command (commands). Assumes nothing: these are definitions.
+-- are judged alike (dimacs), and so are two words of a command (commands).
 use Prim.Native.Nat.{ℕ, min}
 use lib.IntN.{ℤ, pos, negsuc}
 use Rattle.scan.specs.declared.numbers.Natural.{Natural}

@@ -1,4 +1,4 @@
--- The lines of a format: comments, a problem line, data lines. Assumes nothing: these are definitions.
+-- The lines of a format: comments, a problem line, data lines.
 use Prim.Native.Nat.{ℕ}
 use Prim.Native.Char.{code}
 use mathlib.Core.List.{List, [], _∷_}

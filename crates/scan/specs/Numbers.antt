@@ -1,4 +1,4 @@
--- Decimal numbers, of any count of digits, with their true values. Assumes nothing: these are definitions.
+-- Decimal numbers, of any count of digits, with their true values.
 use Prim.Native.Nat.{ℕ, _+_, _-_, _*_}
 use Prim.Native.Char.{code}
 use mathlib.Core.List.{List, [], _∷_}

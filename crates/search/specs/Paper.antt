@@ -1,4 +1,4 @@
--- What the paper says of a search's answer. Assumes nothing.
+-- What the paper says of a search's answer.
 use mathlib.Core.List.{[], _∷_}
 use Rattle.rules.specs.Paper.{Reply, accepted, refusal}
 use Rattle.search.specs.declared.Answer.{Answer}

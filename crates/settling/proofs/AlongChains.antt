@@ -1,4 +1,4 @@
--- Relaxing and looking along a chain of arcs does what doing so along all arcs does. Assumes nothing.
+-- Relaxing and looking along a chain of arcs does what doing so along all arcs does.
 use Prim.Native.Nat.{ℕ, zero, suc, _+_, _-_}
 use mathlib.Core.Path.{_≡_, refl, sym, ap, _∙_}
 use mathlib.Core.Bool.{Bool, true, false}

@@ -1,4 +1,4 @@
--- Choosing by a test. Assumes nothing.
+-- Choosing by a test.
 use mathlib.Core.Bool.{Bool, true, false, cond}
 use mathlib.Core.Path.{_≡_, refl}
 use mathlib.Core.Logic.{_⊎_, inl, inr}

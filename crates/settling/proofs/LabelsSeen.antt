@@ -1,4 +1,4 @@
--- How labels begin, are marked and are changed, as the mathematics of searches sees it. Assumes nothing.
+-- How labels begin, are marked and are changed, as the mathematics of searches sees it.
 use Prim.Native.Nat.{ℕ, _-_, _<_, _≤_}
 use native.Mathlib.Omega.{arith}
 use native.Mathlib.Decide.{ℕ-discrete}

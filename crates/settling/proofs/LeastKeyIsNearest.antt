@@ -1,4 +1,4 @@
--- The node of the least key is the next node to be settled. Assumes nothing.
+-- The node of the least key is the next node to be settled.
 use Prim.Native.Nat.{ℕ, _+_, _-_, _%_, _<_, _≤_}
 use native.Mathlib.Omega.{arith}
 use native.Mathlib.Decide.{ℕ-discrete, decLt}

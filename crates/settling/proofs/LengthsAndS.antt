@@ -1,4 +1,4 @@
--- The labels of a search from t in the reverse network are the lengths to t, and tell S(e). Assumes nothing.
+-- The labels of a search from t in the reverse network are the lengths to t, and tell S(e).
 use Prim.Native.Nat.{ℕ, _+_, _<_, _≤_}
 use native.Mathlib.Omega.{arith}
 use mathlib.Core.Bool.{true}

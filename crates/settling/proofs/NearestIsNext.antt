@@ -1,4 +1,4 @@
--- What `nearestOf` picks is the next node to be settled. Assumes nothing.
+-- What `nearestOf` picks is the next node to be settled.
 use Prim.Native.Nat.{ℕ, zero, suc, _+_, _-_, _<_, _≤_}
 use native.Mathlib.Omega.{arith}
 use native.Mathlib.Decide.{decLt}

@@ -1,4 +1,4 @@
--- The order of labels, and a label offered: a law for each branch. Assumes nothing.
+-- The order of labels, and a label offered: a law for each branch.
 use Prim.Native.Nat.{ℕ, _<_, _≤_}
 use native.Mathlib.Omega.{arith}
 use mathlib.Core.Bool.{Bool, true, false, false≢true}

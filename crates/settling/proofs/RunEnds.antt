@@ -1,4 +1,4 @@
--- What a run ends with: its target is the next node, or no node is left to settle. Assumes nothing.
+-- What a run ends with: its target is the next node, or no node is left to settle.
 use Prim.Native.Nat.{ℕ, zero, suc, _+_, _-_, _≤_}
 use native.Mathlib.Omega.{arith}
 use mathlib.Core.Bool.{Bool, true, false, _&&_}

@@ -1,5 +1,4 @@
 -- What a search by labels answers is what 01 defines: for any test `keep` of arcs, in the network of only those arcs that pass it.
--- Assumes nothing.
 use Prim.Native.Nat.{ℕ, _+_, _<_, _≤_}
 use native.Mathlib.Omega.{arith}
 use native.Mathlib.Numerals.{add-one}

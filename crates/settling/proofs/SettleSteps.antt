@@ -1,4 +1,4 @@
--- Laws of settling, one for each branch: what a proof of the code cites. Assumes nothing.
+-- Laws of settling, one for each branch: what a proof of the code cites.
 use Prim.Native.Nat.{ℕ, _+_}
 use native.Mathlib.Numerals.{add-one}
 use mathlib.Core.Bool.{Bool, true, false}

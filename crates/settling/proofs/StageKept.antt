@@ -1,4 +1,4 @@
--- Settling the next node keeps what a search knows. Assumes nothing.
+-- Settling the next node keeps what a search knows.
 use Prim.Native.Nat.{ℕ, zero, suc, _+_, _-_, _<_, _≤_}
 use native.Mathlib.Omega.{arith}
 use native.Mathlib.Numerals.{add-one}

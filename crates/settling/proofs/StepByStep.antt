@@ -1,4 +1,4 @@
--- Where a run stands: at the start, after each node that it settles, and at its end. Assumes nothing.
+-- Where a run stands: at the start, after each node that it settles, and at its end.
 use Prim.Native.Nat.{ℕ, _+_, _-_, _<_, _≤_}
 use native.Mathlib.Omega.{arith}
 use native.Mathlib.Decide.{decLt}

@@ -1,4 +1,4 @@
--- The trace writes the route: the arcs from the source on, and after them what the row had. Assumes nothing.
+-- The trace writes the route: the arcs from the source on, and after them what the row had.
 use Prim.Native.Nat.{ℕ, zero, suc, _+_, _-_, _<_, _≤_}
 use native.Mathlib.Omega.{arith}
 use native.Mathlib.Numerals.{add-one}

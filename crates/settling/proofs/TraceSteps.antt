@@ -1,4 +1,4 @@
--- Laws of the trace, one for each branch: what a proof of the code cites. Assumes nothing.
+-- Laws of the trace, one for each branch: what a proof of the code cites.
 use Prim.Native.Nat.{ℕ, zero, suc, _+_, _-_, _<_, _≤_}
 use native.Mathlib.Omega.{arith}
 use native.Mathlib.Numerals.{add-one}

@@ -1,4 +1,4 @@
--- The tree of keys follows the labels as they start, are marked and are changed. Assumes nothing.
+-- The tree of keys follows the labels as they start, are marked and are changed.
 use Prim.Native.Nat.{ℕ, _+_, _-_, _<_, _≤_}
 use native.Mathlib.Omega.{arith}
 use native.Mathlib.Decide.{ℕ-discrete, decLt}

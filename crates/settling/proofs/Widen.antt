@@ -1,4 +1,4 @@
--- What is lent serves more nodes, and fewer arcs, and its arcs can be linked by either end. Assumes nothing.
+-- What is lent serves more nodes, and fewer arcs, and its arcs can be linked by either end.
 use Prim.Native.Nat.{ℕ, _≤_}
 use native.Mathlib.Omega.{arith}
 use mathlib.Core.List.{List}

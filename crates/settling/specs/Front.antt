@@ -1,4 +1,4 @@
--- The nodes that are labelled and not settled, in a tree by the keys of their labels. Assumes nothing.
+-- The nodes that are labelled and not settled, in a tree by the keys of their labels.
 use Prim.Native.Nat.{ℕ, _+_, _<_, _≤_}
 use mathlib.Core.Bool.{Bool, false, not, cond, _&&_}
 use mathlib.Core.Path.{_≡_}

@@ -1,6 +1,5 @@
 -- The labels of a search: how they begin, and how a node is labelled, offered a label, or marked as settled.
 -- Node v's entries stand at v - 1. A label is a length and an arc count, ordered by length first and then by arc count.
--- Assumes nothing.
 use Prim.Native.Nat.{ℕ, _-_}
 use mathlib.Core.Bool.{Bool, true, false, cond}
 use mathlib.Core.List.{List}

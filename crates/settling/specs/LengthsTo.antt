@@ -1,4 +1,4 @@
--- S(e) by the labels of a search from t in the reverse network. Assumes nothing.
+-- S(e) by the labels of a search from t in the reverse network.
 use Prim.Native.Nat.{ℕ, _+_}
 use mathlib.Core.Bool.{Bool, true, _&&_}
 use lib.Dec.{ltb, eqb}

@@ -1,5 +1,4 @@
 -- The node to be settled next: of the labelled nodes not settled, the one whose label comes first, the lower number of two alike.
--- Assumes nothing.
 use Prim.Native.Nat.{ℕ, zero, suc, _+_}
 use mathlib.Core.Bool.{false, not, cond, _&&_}
 use lib.ListN.{getD}

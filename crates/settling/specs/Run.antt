@@ -1,4 +1,4 @@
--- The run: the next node is settled, again and again, until it is the target or none is left. Assumes nothing.
+-- The run: the next node is settled, again and again, until it is the target or none is left.
 use Prim.Native.Nat.{ℕ, zero, suc, _+_}
 use mathlib.Core.Bool.{Bool, true, false, cond}
 use lib.Dec.{eqb}

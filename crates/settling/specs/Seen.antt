@@ -1,4 +1,4 @@
--- The label arrays as the mathematics of searches sees them. Assumes nothing.
+-- The label arrays as the mathematics of searches sees them.
 use Prim.Native.Nat.{ℕ, _<_, _≤_}
 use mathlib.Core.Bool.{true}
 use mathlib.Core.Path.{_≡_}

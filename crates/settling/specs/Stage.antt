@@ -1,4 +1,4 @@
--- What a search knows of its labels between two nodes that it settles. Assumes nothing.
+-- What a search knows of its labels between two nodes that it settles.
 use Prim.Native.Nat.{ℕ, _<_, _≤_}
 use mathlib.Core.Bool.{Bool}
 use mathlib.Core.Path.{_≡_}

@@ -1,4 +1,4 @@
--- The settling step: where a run stands before it, and what it ends with. Assumes nothing.
+-- The settling step: where a run stands before it, and what it ends with.
 use Prim.Native.Nat.{ℕ, _+_, _≤_}
 use mathlib.Core.Bool.{true, false}
 use mathlib.Core.Path.{_≡_}

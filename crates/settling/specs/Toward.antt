@@ -1,4 +1,4 @@
--- Which arcs a search may use, and what it is asked. Assumes nothing.
+-- Which arcs a search may use, and what it is asked.
 use Prim.Native.Nat.{ℕ, _*_, _≤_}
 use mathlib.Core.Bool.{Bool, true}
 use mathlib.Core.List.{List}

@@ -1,4 +1,4 @@
--- Least lengths and best walks are unique; their parts, and that there are some. Assumes nothing.
+-- Least lengths and best walks are unique; their parts, and that there are some.
 use mathlib.Core.Path.{_≡_, refl, sym, subst, subst₂}
 use Prim.Native.Nat.{ℕ, zero, suc, _+_, _≤_, _<_}
 use native.Mathlib.Nat.{le-antisymm}

@@ -1,4 +1,4 @@
--- How large lengths, arc counts and settled counts can be. Assumes nothing.
+-- How large lengths, arc counts and settled counts can be.
 use mathlib.Core.Path.{_≡_, refl}
 use mathlib.Core.Logic.{_⊎_, inl, inr, _≢_}
 use Prim.Native.Nat.{ℕ, _*_, _≤_, _<_}

@@ -1,4 +1,4 @@
--- A search begins with s alone labelled; a step of it marks the next node u as settled, with no arc out of u seen yet. Assumes nothing.
+-- A search begins with s alone labelled; a step of it marks the next node u as settled, with no arc out of u seen yet.
 use mathlib.Core.Path.{_≡_, sym, subst, ap, _∙_}
 use mathlib.Core.Logic.{_↔_, _≢_}
 use Prim.Native.Nat.{ℕ, suc, _+_, _≤_}

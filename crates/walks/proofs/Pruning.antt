@@ -1,5 +1,5 @@
 -- Demand 3, for any per-arc test: a search over only the arcs that the test keeps answers as one over all arcs,
--- if the test keeps every arc of the shortest walks. Assumes nothing.
+-- if the test keeps every arc of the shortest walks.
 use mathlib.Core.Path.{_≡_, sym}
 use mathlib.Core.List.{List}
 use mathlib.Core.Logic.{_↔_}

@@ -1,4 +1,4 @@
--- The arcs out of the node u that is being settled are relaxed, one after the other. Assumes nothing.
+-- The arcs out of the node u that is being settled are relaxed, one after the other.
 use mathlib.Core.Path.{_≡_, refl, sym, subst, ap, _∙_}
 use mathlib.Core.Logic.{_↔_, _≢_}
 use Prim.Native.Nat.{ℕ, _+_}

@@ -1,4 +1,4 @@
--- The route is one only, has k(t) arcs and length d(s,t), and never repeats a node. Assumes nothing.
+-- The route is one only, has k(t) arcs and length d(s,t), and never repeats a node.
 use mathlib.Core.Path.{_≡_, refl, sym, ap, ap₂, _∙_, subst}
 use mathlib.Core.Logic.{_⊎_, inl, inr}
 use mathlib.Core.List.{List, [], _∷_, _++_}

@@ -1,4 +1,4 @@
--- Finding the next node to settle, by one look at each node in ascending order. Assumes nothing.
+-- Finding the next node to settle, by one look at each node in ascending order.
 use mathlib.Core.Path.{subst}
 use mathlib.Core.Logic.{_≢_}
 use Prim.Native.Nat.{ℕ, suc, _≤_, _<_}

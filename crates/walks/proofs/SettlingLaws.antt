@@ -1,4 +1,4 @@
--- Why a search's answer is right: labels of settled nodes, and of the next one, are the best. Assumes nothing.
+-- Why a search's answer is right: labels of settled nodes, and of the next one, are the best.
 use mathlib.Core.Path.{refl, sym}
 use mathlib.Core.Logic.{_≢_, _⊎_, inl, inr}
 use Prim.Native.Nat.{ℕ, suc}

@@ -1,4 +1,4 @@
--- Tests that spare the shortest walks from s to t: they keep every arc of them. Assumes nothing.
+-- Tests that spare the shortest walks from s to t: they keep every arc of them.
 use mathlib.Core.Path.{_≡_, sym}
 use Prim.Native.Nat.{ℕ, _+_}
 use native.Mathlib.Omega.{arith}

@@ -1,4 +1,4 @@
--- t is in S(e) exactly when some walk of least length from e's tail to t has e as its first arc. Assumes nothing.
+-- t is in S(e) exactly when some walk of least length from e's tail to t has e as its first arc.
 use Prim.Native.Nat.{ℕ}
 use native.Mathlib.Omega.{arith}
 use lib.ListN.{length}

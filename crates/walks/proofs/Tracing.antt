@@ -1,4 +1,4 @@
--- The route, traced back by the labels that a search has when its target is the next node. Assumes nothing.
+-- The route, traced back by the labels that a search has when its target is the next node.
 use mathlib.Core.Path.{_≡_, refl, sym}
 use mathlib.Core.Logic.{_⊎_, inl, inr}
 use Prim.Native.Nat.{ℕ, _+_, _≤_}

@@ -1,4 +1,4 @@
--- Walks taken apart and put together. Assumes nothing.
+-- Walks taken apart and put together.
 use mathlib.Core.Path.{_≡_, refl, sym, subst}
 use mathlib.Core.List.{List, [], _∷_, _++_}
 use mathlib.Core.Bool.{true, Bool-set}

@@ -1,4 +1,4 @@
--- Checking a per-arc test: the place that refusal 13 names. Assumes nothing.
+-- Checking a per-arc test: the place that refusal 13 names.
 use Prim.Native.Nat.{ℕ, _≤_}
 use Rattle.walks.specs.Walk.{Net}
 use Rattle.walks.specs.Through.{InS}

@@ -1,4 +1,4 @@
--- The network that is lent as rows of numbers. Nodes, arcs and places are numbered from 1. Assumes nothing.
+-- The network that is lent as rows of numbers. Nodes, arcs and places are numbered from 1.
 use mathlib.Core.List.{List}
 use Prim.Native.Nat.{ℕ, _-_, _≤_}
 use lib.ListN.{length, getD}

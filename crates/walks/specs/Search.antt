@@ -1,4 +1,4 @@
--- The reply of a search, and that there is only one. Assumes nothing.
+-- The reply of a search, and that there is only one.
 use mathlib.Core.List.{List}
 use Prim.Native.Nat.{ℕ}
 use Rattle.walks.specs.Walk.{Net}

@@ -1,4 +1,4 @@
--- The settled count. Assumes nothing.
+-- The settled count.
 use Prim.Native.Nat.{ℕ, suc}
 use Rattle.walks.specs.Walk.{Net}
 use Rattle.walks.specs.Order.{Before}

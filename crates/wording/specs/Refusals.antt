@@ -1,4 +1,4 @@
--- Refusals as the programs print them. Assumes nothing: these are definitions.
+-- Refusals as the programs print them.
 use Prim.Native.Nat.{ℕ}
 use mathlib.Core.List.{List, _++_}
 use mathlib.Core.Bool.{cond}

@@ -1,4 +1,4 @@
--- What search, build, check and update tell, computed: by the definitions that the code's steps meet. Assumes nothing.
+-- What search, build, check and update tell, computed: by the definitions that the code's steps meet.
 use Prim.Native.Nat.{ℕ, zero, suc, _+_}
 use mathlib.Core.Bool.{Bool, true, cond}
 use mathlib.Core.List.{List, [], _∷_}

@@ -1,4 +1,4 @@
--- What is computed is what the functions say. Assumes nothing.
+-- What is computed is what the functions say.
 use Prim.Native.Nat.{ℕ, zero, suc, _+_, _*_, _≤_}
 use mathlib.Core.Path.{_≡_, refl, subst}
 use mathlib.Core.Bool.{Bool, true}

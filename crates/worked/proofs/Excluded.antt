@@ -1,4 +1,4 @@
--- Wrong programs that lines of the table exclude, since a function writes one thing only, and the line tells which. Assumes nothing.
+-- Wrong programs that lines of the table exclude, since a function writes one thing only, and the line tells which.
 use Prim.Native.Nat.{ℕ, zero, suc}
 use mathlib.Core.Path.{_≡_, refl, sym, ap, _∙_}
 use mathlib.Core.Logic.{_≢_}

@@ -1,4 +1,4 @@
--- What the look for the lowest arc, and then its lowest node, finds. Assumes nothing.
+-- What the look for the lowest arc, and then its lowest node, finds.
 use Prim.Native.Nat.{ℕ, zero, suc, _≤_, _<_}
 use mathlib.Core.Path.{_≡_, ap, _∙_}
 use mathlib.Core.Bool.{Bool, true, false}

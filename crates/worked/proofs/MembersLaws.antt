@@ -1,4 +1,4 @@
--- S(e) has the nodes to which its arc leads, and no other. Assumes nothing.
+-- S(e) has the nodes to which its arc leads, and no other.
 use Prim.Native.Nat.{ℕ, zero, suc, _+_, _≤_, _<_}
 use mathlib.Core.Path.{_≡_, sym, ap, _∙_}
 use mathlib.Core.Logic.{_⊎_, inl, inr, ⊎-elim, _↔_}

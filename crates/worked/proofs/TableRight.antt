@@ -1,4 +1,4 @@
--- Every line of the table is right, by one computed test and one law. Assumes nothing.
+-- Every line of the table is right, by one computed test and one law.
 use Prim.Native.Nat.{ℕ}
 use mathlib.Core.Path.{_≡_, refl, subst}
 use mathlib.Core.Logic.{_↔_}

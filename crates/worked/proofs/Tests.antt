@@ -1,4 +1,4 @@
--- Tests of what is told, and what they tell. Assumes nothing.
+-- Tests of what is told, and what they tell.
 use Prim.Native.Nat.{ℕ, _+_, _-_}
 use mathlib.Core.Path.{_≡_, refl, ap, subst}
 use mathlib.Core.Bool.{Bool, true, false, _&&_, false≢true}

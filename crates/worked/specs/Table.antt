@@ -1,6 +1,5 @@
 -- The starred lines of 01, and the errors that learners bring: one table under one statement. The statement is made of the functions'
 -- own relations, so that each line says what a function replies and writes. `table-right` in proofs/TableRight.antt proves it.
--- Assumes nothing.
 use Prim.Native.Nat.{ℕ}
 use mathlib.Core.Path.{_≡_}
 use mathlib.Core.Logic.{_⊎_, _↔_}

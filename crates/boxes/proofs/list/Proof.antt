@@ -1,4 +1,4 @@
--- `boxes::list` meets its contract. Assumes nothing.
+-- `boxes::list` meets its contract.
 use mathlib.Core.Path.{sym}
 use native.Mathlib.Omega.{arith}
 use lib.Seq.{length-take-le}

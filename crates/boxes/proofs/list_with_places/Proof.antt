@@ -1,4 +1,4 @@
--- `boxes::list_with_places` meets its contract. Assumes nothing.
+-- `boxes::list_with_places` meets its contract.
 use mathlib.Core.Path.{sym}
 use native.Mathlib.Omega.{arith}
 use lib.Seq.{length-take-le}

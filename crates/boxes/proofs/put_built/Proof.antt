@@ -1,4 +1,4 @@
--- `boxes::put_built` meets its contract. Assumes nothing.
+-- `boxes::put_built` meets its contract.
 use native.Mathlib.Omega.{arith}
 use Rattle.pages.proofs.PageLaws.{puts-case}
 use Rattle.boxes.specs.Prints.{builtText}

@@ -1,4 +1,4 @@
--- `boxes::put_graph_refused` meets its contract. Assumes nothing.
+-- `boxes::put_graph_refused` meets its contract.
 use native.Mathlib.Omega.{arith}
 use borrow.Author.Needs.{needs}
 use Rattle.boxes.proofs.put_graph_refused.Statement.{statement}

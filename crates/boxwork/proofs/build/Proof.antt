@@ -1,4 +1,4 @@
--- `boxwork::build` meets its contract. Assumes nothing.
+-- `boxwork::build` meets its contract.
 use mathlib.Core.Path.{_≡_, sym, _∙_}
 use native.Mathlib.Omega.{arith}
 use borrow.Author.Needs.{needs}

@@ -1,4 +1,4 @@
--- `boxwork::check` meets its contract. Assumes nothing.
+-- `boxwork::check` meets its contract.
 use mathlib.Core.Path.{_≡_, sym, _∙_}
 use borrow.Author.Needs.{needs}
 use Rattle.rules.specs.declared.Judged.the-variants.{Fine}

@@ -1,4 +1,4 @@
--- `boxwork::update` meets its contract. Assumes nothing.
+-- `boxwork::update` meets its contract.
 use Prim.Native.Nat.{_≤_}
 use mathlib.Core.Path.{_≡_, sym, _∙_}
 use native.Mathlib.Omega.{arith}

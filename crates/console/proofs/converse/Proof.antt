@@ -1,4 +1,4 @@
--- `console::converse` meets its contract. Assumes nothing.
+-- `console::converse` meets its contract.
 use Prim.Native.Nat.{_≤_}
 use mathlib.Core.Path.{_≡_, refl}
 use native.Mathlib.Omega.{arith}

@@ -1,4 +1,4 @@
--- `files::read_on` meets its contract. Assumes nothing.
+-- `files::read_on` meets its contract.
 use Prim.Native.Nat.{_≤_, _-_}
 use mathlib.Core.Path.{_≡_}
 use lib.ListN.{length}

@@ -1,4 +1,4 @@
--- `hearing::hear` meets its contract. Assumes nothing.
+-- `hearing::hear` meets its contract.
 use mathlib.Core.Path.{sym}
 use native.Mathlib.Omega.{arith}
 use lib.Seq.{set-out}

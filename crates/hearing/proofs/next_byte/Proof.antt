@@ -1,4 +1,4 @@
--- `hearing::next_byte` meets its contract. Assumes nothing.
+-- `hearing::next_byte` meets its contract.
 use mathlib.Core.Logic.{inl, inr}
 use native.Mathlib.Omega.{arith}
 use Rattle.hearing.proofs.HearingLaws.{next-ahead}

@@ -1,4 +1,4 @@
--- `hearing::read_line` meets its contract. Assumes nothing.
+-- `hearing::read_line` meets its contract.
 use Prim.Native.Nat.{_+_, _-_}
 use mathlib.Core.Path.{_≡_}
 use native.Mathlib.Omega.{arith}

@@ -1,4 +1,4 @@
--- `lending::lend` meets its contract. Assumes nothing.
+-- `lending::lend` meets its contract.
 use Prim.Native.Nat.{ℕ, _+_, _≤_}
 use mathlib.Core.Path.{refl, ap, _∙_}
 use native.Mathlib.Omega.{arith}

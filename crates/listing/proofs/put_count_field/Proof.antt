@@ -1,4 +1,4 @@
--- `listing::put_count_field` meets its contract. Assumes nothing.
+-- `listing::put_count_field` meets its contract.
 use Prim.Native.Nat.{_-_}
 use native.Mathlib.Omega.{arith}
 use Rattle.scan.specs.Ascii.{bytes}

@@ -1,4 +1,4 @@
--- `listing::put_line` meets its contract. Assumes nothing.
+-- `listing::put_line` meets its contract.
 use Prim.Native.Nat.{_-_}
 use native.Mathlib.Omega.{arith}
 use Rattle.pages.proofs.PageLaws.{puts-both}

@@ -1,4 +1,4 @@
--- `listing::put_listing` meets its contract. Assumes nothing.
+-- `listing::put_listing` meets its contract.
 use Prim.Native.Nat.{_≤_, _-_, _*_}
 use mathlib.Core.Path.{_≡_}
 use native.Mathlib.Omega.{arith}

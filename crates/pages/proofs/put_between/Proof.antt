@@ -1,4 +1,4 @@
--- `pages::put_between` meets its contract. Assumes nothing.
+-- `pages::put_between` meets its contract.
 use native.Mathlib.Omega.{arith}
 use Rattle.pages.proofs.PageLaws.{puts-both}
 use borrow.Author.Needs.{needs}

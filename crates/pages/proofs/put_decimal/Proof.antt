@@ -1,4 +1,4 @@
--- `pages::put_decimal` meets its contract. Assumes nothing.
+-- `pages::put_decimal` meets its contract.
 use mathlib.Core.Path.{_∙_}
 use native.Mathlib.Omega.{arith}
 use Rattle.pages.proofs.DecimalLaws.{digits-decimal, few-digits}

@@ -1,4 +1,4 @@
--- `pages::put_number` meets its contract. Assumes nothing.
+-- `pages::put_number` meets its contract.
 use Prim.Native.Nat.{ℕ}
 use mathlib.Core.Path.{_∙_, ap}
 use mathlib.Core.List.{_∷_}

@@ -1,4 +1,4 @@
--- `pages::size` meets its contract. Assumes nothing.
+-- `pages::size` meets its contract.
 use Rattle.pages.proofs.Signed.{wide, wide-fits, minus, minus-fits, minus-size, minus-good, plus-good}
 use Rattle.pages.proofs.size.Statement.{statement}
 use Rattle.pages.proofs.size.Tie as tie

@@ -1,4 +1,4 @@
--- `requests::meet` meets its contract. Assumes nothing.
+-- `requests::meet` meets its contract.
 use native.Mathlib.Omega.{arith}
 use Rattle.requests.specs.Requests.{Meets}
 use Rattle.requests.proofs.RequestLaws.{met-case, met, met-any}

@@ -1,4 +1,4 @@
--- `wording::put_no_file` meets its contract. Assumes nothing.
+-- `wording::put_no_file` meets its contract.
 use native.Mathlib.Omega.{arith}
 use borrow.Author.Needs.{needs}
 use Rattle.scan.specs.Ascii.{bytes}

@@ -1,4 +1,4 @@
--- `wording::put_values` meets its contract. Assumes nothing.
+-- `wording::put_values` meets its contract.
 use mathlib.Core.Path.{ap}
 use native.Mathlib.Omega.{arith}
 use Rattle.rules.proofs.ToldLaws.{values-told, count-told, told-long}

@@ -1,4 +1,4 @@
--- `wording::put_words` meets its contract. Assumes nothing.
+-- `wording::put_words` meets its contract.
 use native.Mathlib.Omega.{arith}
 use borrow.Author.Tests.{eq-eqb, ne-eqb}
 use borrow.Author.Needs.{needs}

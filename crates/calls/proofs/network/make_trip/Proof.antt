@@ -1,4 +1,4 @@
--- `calls::network::make_trip` meets its contract. Assumes nothing.
+-- `calls::network::make_trip` meets its contract.
 use mathlib.Core.Path.{ap}
 use native.Mathlib.Omega.{arith}
 use Rattle.calls.specs.Calls.{tripCall, Makes}

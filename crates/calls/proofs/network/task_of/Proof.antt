@@ -1,4 +1,4 @@
--- `calls::network::task_of` meets its contract. Assumes nothing.
+-- `calls::network::task_of` meets its contract.
 use mathlib.Core.Path.{sym}
 use borrow.Author.Needs.{needs}
 use Rattle.calls.proofs.network.task_of.Statement.{statement}

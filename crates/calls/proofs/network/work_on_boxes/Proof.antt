@@ -1,4 +1,4 @@
--- `calls::network::work_on_boxes` meets its contract. Assumes nothing.
+-- `calls::network::work_on_boxes` meets its contract.
 use mathlib.Core.Path.{ap}
 use native.Mathlib.Omega.{arith}
 use Rattle.calls.specs.Calls.{workCall, Makes}

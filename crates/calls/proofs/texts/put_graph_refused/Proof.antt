@@ -1,4 +1,4 @@
--- `calls::texts::put_graph_refused` meets its contract. Assumes nothing.
+-- `calls::texts::put_graph_refused` meets its contract.
 use native.Mathlib.Omega.{arith}
 use borrow.Author.Needs.{needs}
 use Rattle.calls.proofs.texts.put_graph_refused.Statement.{statement}

@@ -1,4 +1,4 @@
--- `commands::arguments::lend_of` meets its contract. Assumes nothing.
+-- `commands::arguments::lend_of` meets its contract.
 use mathlib.Core.Path.{_≡_, sym, _∙_}
 use Rattle.commands.specs.Words.{wordsOf}
 use Rattle.commands.specs.Commands.{onceGood, lendAsked, asked}

@@ -1,4 +1,4 @@
--- `commands::faults::judge_value` meets its contract. Assumes nothing.
+-- `commands::faults::judge_value` meets its contract.
 use mathlib.Core.Path.{_≡_, sym, ap, _∙_}
 use mathlib.Core.List.{List}
 use Prim.Native.Nat.{ℕ}

@@ -1,4 +1,4 @@
--- `commands::names::name_at` meets its contract. Assumes nothing.
+-- `commands::names::name_at` meets its contract.
 use Prim.Native.Nat.{ℕ, _≤_, _+_, _-_}
 use mathlib.Core.Path.{_≡_, sym, ap, _∙_}
 use native.Mathlib.Omega.{arith}

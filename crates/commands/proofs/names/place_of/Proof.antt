@@ -1,4 +1,4 @@
--- `commands::names::place_of` meets its contract. Assumes nothing.
+-- `commands::names::place_of` meets its contract.
 use Prim.Native.Nat.{_≤_, _+_, _-_}
 use mathlib.Core.Path.{_≡_}
 use native.Mathlib.Omega.{arith}

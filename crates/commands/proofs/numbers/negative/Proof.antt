@@ -1,4 +1,4 @@
--- `commands::numbers::negative` meets its contract. Assumes nothing.
+-- `commands::numbers::negative` meets its contract.
 use Prim.Native.Nat.{_-_}
 use native.Mathlib.Omega.{arith}
 use mir.Facts.{toZ-ofZ}

@@ -1,4 +1,4 @@
--- `commands::numbers::read_signed` meets its contract. Assumes nothing.
+-- `commands::numbers::read_signed` meets its contract.
 use mathlib.Core.Path.{sym, ap, _∙_}
 use native.Mathlib.Omega.{arith}
 use borrow.Author.Needs.{sfits-of}

@@ -1,4 +1,4 @@
--- `commands::numbers::read_to` meets its contract. Assumes nothing.
+-- `commands::numbers::read_to` meets its contract.
 use mathlib.Core.Path.{sym, ap, _∙_}
 use Rattle.commands.specs.Numbers.{countTo}
 use Rattle.commands.proofs.NumberLaws.{count-held, count-high, count-in}

@@ -1,4 +1,4 @@
--- `commands::rows::row_of` meets its contract. Assumes nothing.
+-- `commands::rows::row_of` meets its contract.
 use mathlib.Core.List.{List, map}
 use Rattle.scan.specs.Ascii.{bytes}
 use Rattle.commands.specs.Rows.{allRows, rowOf}

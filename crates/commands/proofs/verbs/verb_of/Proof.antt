@@ -1,4 +1,4 @@
--- `commands::verbs::verb_of` meets its contract. Assumes nothing.
+-- `commands::verbs::verb_of` meets its contract.
 use Rattle.scan.specs.Ascii.{bytes}
 use Rattle.commands.specs.Verbs.{allVerbs, verbOf}
 use Rattle.commands.specs.declared.verbs.Verb.the-variants.{NoVerb}

@@ -1,4 +1,4 @@
--- `console::answer::answer` meets its contract. Assumes nothing.
+-- `console::answer::answer` meets its contract.
 use native.Mathlib.Omega.{arith}
 use Rattle.console.specs.Answers.{Answers, Answered}
 use Rattle.console.proofs.AnswerLaws.{lends-as, fresh-as, answered-as, answered-by, obeyed-as}

@@ -1,4 +1,4 @@
--- `dimacs::judge::judge_data` meets its contract. Assumes nothing.
+-- `dimacs::judge::judge_data` meets its contract.
 use mathlib.Core.Path.{sym, _∙_}
 use borrow.Author.Tests.{not-true, not-false, lt-ltb, le-ltb}
 use Rattle.dimacs.specs.Judgement.{dataJudged}

@@ -1,4 +1,4 @@
--- `dimacs::judge::judge_end` meets its contract. Assumes nothing.
+-- `dimacs::judge::judge_end` meets its contract.
 use Rattle.dimacs.specs.Judgement.{ended}
 use borrow.Author.Needs.{needs}
 use Rattle.dimacs.proofs.judge.judge_end.Statement.{statement}

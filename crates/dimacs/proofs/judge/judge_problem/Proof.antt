@@ -1,4 +1,4 @@
--- `dimacs::judge::judge_problem` meets its contract. Assumes nothing.
+-- `dimacs::judge::judge_problem` meets its contract.
 use mathlib.Core.Path.{_≡_, sym, _∙_}
 use mathlib.Core.Bool.{_&&_}
 use lib.Dec.{leb}

@@ -1,5 +1,5 @@
 -- `drawing::compare::before_miss` meets its contract.
--- The loop's invariant: the boxes of the arcs up to e miss nothing. Assumes nothing.
+-- The loop's invariant: the boxes of the arcs up to e miss nothing.
 use Prim.Native.Nat.{ℕ, _-_, _≤_}
 use mathlib.Core.Path.{_≡_, sym, _∙_, ap}
 use mathlib.Core.Bool.{false, not}

@@ -1,5 +1,5 @@
 -- `drawing::compare::find_miss` meets its contract.
--- The loop's invariant: the lowest arc and node among the nodes up to t. Assumes nothing.
+-- The loop's invariant: the lowest arc and node among the nodes up to t.
 use Prim.Native.Nat.{ℕ, _-_, _≤_}
 use mathlib.Core.Path.{_≡_, refl, _∙_}
 use mathlib.Core.Logic.{⊎-elim}

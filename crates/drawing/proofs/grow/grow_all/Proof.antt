@@ -1,5 +1,5 @@
 -- `drawing::grow::grow_all` meets its contract.
--- The loop's invariant: each box has grown by the nodes up to t. Assumes nothing.
+-- The loop's invariant: each box has grown by the nodes up to t.
 use Prim.Native.Nat.{ℕ, _-_, _≤_}
 use mathlib.Core.Path.{_≡_, refl, _∙_}
 use mathlib.Core.Bool.{Bool, false}

@@ -1,5 +1,5 @@
 -- `drawing::grow::grow_marked` meets its contract.
--- The loop's invariant: the boxes of the arcs up to e are drawn. Assumes nothing.
+-- The loop's invariant: the boxes of the arcs up to e are drawn.
 use Prim.Native.Nat.{_-_, _≤_}
 use mathlib.Core.Path.{_≡_, _∙_}
 use mathlib.Core.Logic.{⊎-elim}

@@ -1,5 +1,5 @@
 -- `drawing::heads::draw_heads` meets its contract.
--- The loop's invariant: the boxes of the arcs up to e are drawn. Assumes nothing.
+-- The loop's invariant: the boxes of the arcs up to e are drawn.
 use Prim.Native.Nat.{_-_, _≤_}
 use mathlib.Core.Path.{_≡_}
 use native.Mathlib.Omega.{arith}

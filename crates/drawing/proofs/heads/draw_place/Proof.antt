@@ -1,4 +1,4 @@
--- `drawing::heads::draw_place` meets its contract. Assumes nothing.
+-- `drawing::heads::draw_place` meets its contract.
 use Rattle.geometry.proofs.Signed.{back}
 use borrow.Author.Needs.{needs}
 use Rattle.drawing.proofs.heads.draw_place.Statement.{statement}

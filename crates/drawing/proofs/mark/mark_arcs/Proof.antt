@@ -1,4 +1,4 @@
--- `drawing::mark::mark_arcs` meets its contract. The loop's invariant: the arcs up to e are marked. Assumes nothing.
+-- `drawing::mark::mark_arcs` meets its contract. The loop's invariant: the arcs up to e are marked.
 use Prim.Native.Nat.{_-_, _≤_}
 use mathlib.Core.Path.{_≡_}
 use native.Mathlib.Omega.{arith}

@@ -1,4 +1,4 @@
--- `drawing::mark::mark_toward` meets its contract. Assumes nothing.
+-- `drawing::mark::mark_toward` meets its contract.
 use mathlib.Core.Path.{ap}
 use Rattle.walks.proofs.RowsLaws.{turned-sound}
 use Rattle.settling.specs.declared.Labels.{Labels}

@@ -1,4 +1,4 @@
--- `drawing::mark::on_shortest` meets its contract. Assumes nothing.
+-- `drawing::mark::on_shortest` meets its contract.
 use borrow.Author.Needs.{needs}
 use Rattle.settling.specs.LengthsTo.{onShortest}
 use Rattle.drawing.proofs.mark.on_shortest.Statement.{statement}

@@ -1,4 +1,4 @@
--- `frontier::chain::link` meets its contract. The loop's invariant: the arcs from place j on are linked. Assumes nothing.
+-- `frontier::chain::link` meets its contract. The loop's invariant: the arcs from place j on are linked.
 use Prim.Native.Nat.{_-_, _≤_}
 use native.Mathlib.Omega.{arith}
 use mathlib.Core.Path.{_≡_}

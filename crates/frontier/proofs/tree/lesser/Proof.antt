@@ -1,4 +1,4 @@
--- `frontier::tree::lesser` meets its contract. Assumes nothing.
+-- `frontier::tree::lesser` meets its contract.
 use Rattle.frontier.proofs.Keys.{least-yes, least-no}
 use Rattle.frontier.proofs.tree.lesser.Statement.{statement}
 use Rattle.frontier.proofs.tree.lesser.Tie as tie

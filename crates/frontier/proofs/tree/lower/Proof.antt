@@ -1,5 +1,4 @@
 -- `frontier::tree::lower` meets its contract. The loop's invariant: but for the place above i all is mended, and i has the key.
--- Assumes nothing.
 use Prim.Native.Nat.{_<_, _≤_}
 use native.Mathlib.Omega.{arith}
 use mathlib.Core.Path.{refl}

@@ -1,4 +1,4 @@
--- `frontier::tree::nearest` meets its contract. Assumes nothing.
+-- `frontier::tree::nearest` meets its contract.
 use borrow.Author.Needs.{needs}
 use Rattle.frontier.proofs.Keys.{pick-none, pick-some}
 use Rattle.frontier.proofs.tree.nearest.Statement.{statement}

@@ -1,4 +1,4 @@
--- `frontier::tree::put` meets its contract. The loop's invariant: but for the place above i all is mended. Assumes nothing.
+-- `frontier::tree::put` meets its contract. The loop's invariant: but for the place above i all is mended.
 use Prim.Native.Nat.{_<_, _≤_}
 use native.Mathlib.Omega.{arith}
 use mathlib.Core.Path.{refl}

@@ -1,4 +1,4 @@
--- `lending::rows::clear_rows` meets its contract. Assumes nothing.
+-- `lending::rows::clear_rows` meets its contract.
 use borrow.Author.Needs.{needs}
 use Rattle.lending.proofs.rows.clear_rows.Statement.{statement}
 use Rattle.lending.proofs.rows.clear_rows.Tie as tie

@@ -1,4 +1,4 @@
--- `lending::rows::fetch_numbers` meets its contract. Assumes nothing.
+-- `lending::rows::fetch_numbers` meets its contract.
 use Prim.Native.Nat.{_≤_}
 use mathlib.Core.Path.{_∙_}
 use native.Mathlib.Omega.{arith}

@@ -1,4 +1,4 @@
--- `lending::rows::with_lent` meets its contract. Assumes nothing.
+-- `lending::rows::with_lent` meets its contract.
 use mathlib.Core.Path.{ap}
 use Prim.Native.Nat.{ℕ}
 use mathlib.Core.List.{List}

@@ -1,4 +1,4 @@
--- `lending::storing::store_counts` meets its contract. Assumes nothing.
+-- `lending::storing::store_counts` meets its contract.
 use Prim.Native.Nat.{_+_, _-_, _<_}
 use mathlib.Core.Path.{sym, _∙_}
 use Rattle.commands.specs.declared.rows.Kind.the-variants.{Counts}

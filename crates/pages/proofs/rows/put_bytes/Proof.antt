@@ -1,4 +1,4 @@
--- `pages::rows::put_bytes` meets its contract. Assumes nothing.
+-- `pages::rows::put_bytes` meets its contract.
 use Prim.Native.Nat.{ℕ, _≤_, _+_, _-_, _*_}
 use mathlib.Core.Path.{_≡_, refl, ap}
 use mathlib.Core.List.{_++_}

@@ -1,4 +1,4 @@
--- `replies::answers::put_answer` meets its contract. Assumes nothing.
+-- `replies::answers::put_answer` meets its contract.
 use mathlib.Core.Path.{ap}
 use native.Mathlib.Omega.{arith}
 use borrow.Author.Needs.{needs}

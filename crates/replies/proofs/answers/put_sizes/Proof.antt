@@ -1,4 +1,4 @@
--- `replies::answers::put_sizes` meets its contract. Assumes nothing.
+-- `replies::answers::put_sizes` meets its contract.
 use native.Mathlib.Omega.{arith}
 use borrow.Author.Needs.{needs}
 use Rattle.scan.specs.Ascii.{bytes}

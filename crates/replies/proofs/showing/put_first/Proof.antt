@@ -1,4 +1,4 @@
--- `replies::showing::put_first` meets its contract. Assumes nothing.
+-- `replies::showing::put_first` meets its contract.
 use Prim.Native.Nat.{_≤_}
 use mathlib.Core.Path.{sym}
 use lib.ListN.{length}

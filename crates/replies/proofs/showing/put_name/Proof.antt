@@ -1,4 +1,4 @@
--- `replies::showing::put_name` meets its contract. Assumes nothing.
+-- `replies::showing::put_name` meets its contract.
 use mathlib.Core.Path.{ap, _∙_}
 use native.Mathlib.Omega.{arith}
 use borrow.Author.Needs.{needs}

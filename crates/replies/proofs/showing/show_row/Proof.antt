@@ -1,4 +1,4 @@
--- `replies::showing::show_row` meets its contract. Assumes nothing.
+-- `replies::showing::show_row` meets its contract.
 use native.Mathlib.Omega.{arith}
 use borrow.Author.Needs.{needs}
 use Rattle.scan.specs.Ascii.{bytes}

@@ -1,4 +1,4 @@
--- `replies::words::put_fault` meets its contract. Assumes nothing.
+-- `replies::words::put_fault` meets its contract.
 use native.Mathlib.Omega.{arith}
 use borrow.Author.Needs.{needs}
 use Rattle.scan.specs.Ascii.{bytes}

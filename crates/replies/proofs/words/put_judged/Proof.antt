@@ -1,4 +1,4 @@
--- `replies::words::put_judged` meets its contract. Assumes nothing.
+-- `replies::words::put_judged` meets its contract.
 use native.Mathlib.Omega.{arith}
 use borrow.Author.Needs.{needs}
 use Rattle.pages.proofs.PageLaws.{puts-case}

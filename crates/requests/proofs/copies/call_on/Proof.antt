@@ -1,4 +1,4 @@
--- `requests::copies::call_on` meets its contract. Assumes nothing.
+-- `requests::copies::call_on` meets its contract.
 use mathlib.Core.Path.{sym, ap, _∙_}
 use Rattle.commands.specs.declared.Request.the-variants as request
 use Rattle.calls.specs.Calls.{taskCall}

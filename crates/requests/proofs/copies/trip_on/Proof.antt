@@ -1,4 +1,4 @@
--- `requests::copies::trip_on` meets its contract. Assumes nothing.
+-- `requests::copies::trip_on` meets its contract.
 use Prim.Native.Nat.{ℕ}
 use mathlib.Core.Path.{sym}
 use native.Mathlib.Omega.{arith}

@@ -1,4 +1,4 @@
--- `requests::copies::work_on` meets its contract. Assumes nothing.
+-- `requests::copies::work_on` meets its contract.
 use Prim.Native.Nat.{ℕ}
 use mathlib.Core.Path.{sym}
 use native.Mathlib.Omega.{arith}

@@ -1,4 +1,4 @@
--- `requests::texts::graph` meets its contract. Assumes nothing.
+-- `requests::texts::graph` meets its contract.
 use Prim.Native.Nat.{ℕ}
 use mathlib.Core.Path.{sym}
 use native.Mathlib.Omega.{arith}

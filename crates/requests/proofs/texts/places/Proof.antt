@@ -1,4 +1,4 @@
--- `requests::texts::places` meets its contract. Assumes nothing.
+-- `requests::texts::places` meets its contract.
 use mathlib.Core.Path.{sym}
 use native.Mathlib.Omega.{arith}
 use lib.IntN.{ℤ, pos}

@@ -1,4 +1,4 @@
--- `rules::Refusal::number` meets its contract. Assumes nothing.
+-- `rules::Refusal::number` meets its contract.
 use mathlib.Core.Path.{ap}
 use borrow.Author.Needs.{needs}
 use Rattle.rules.specs.declared.Told.{Told}

@@ -1,4 +1,4 @@
--- `rules::Refusal::place` meets its contract. Assumes nothing.
+-- `rules::Refusal::place` meets its contract.
 use borrow.Author.Needs.{needs}
 use Rattle.rules.proofs.ToldLaws.{first-told}
 use Rattle.rules.proofs.Refusal.place.Statement.{statement}

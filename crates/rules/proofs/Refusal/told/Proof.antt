@@ -1,4 +1,4 @@
--- `rules::Refusal::told` meets its contract. Assumes nothing.
+-- `rules::Refusal::told` meets its contract.
 use borrow.Author.Needs.{needs}
 use Rattle.rules.proofs.ToldLaws.{told-by}
 use Rattle.rules.proofs.Refusal.told.Statement.{statement}

@@ -1,4 +1,4 @@
--- The proof of the cycle of calls {match_fields}: each call has a field of the form less to read. Assumes nothing.
+-- The proof of the cycle of calls {match_fields}: each call has a field of the form less to read.
 use Prim.Native.Nat.{ℕ, _<_}
 use native.Mathlib.Omega.{arith}
 use mathlib.Core.Path.{_∙_, ap}

@@ -1,4 +1,4 @@
--- `scan::fields::take_field` meets its contract. Assumes nothing.
+-- `scan::fields::take_field` meets its contract.
 use mathlib.Core.Path.{sym, ap, _∙_}
 use mathlib.Core.Bool.{true, false}
 use Rattle.scan.specs.Fields.{takenNatural}

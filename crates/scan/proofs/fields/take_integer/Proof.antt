@@ -1,4 +1,4 @@
--- `scan::fields::take_integer` meets its contract. Assumes nothing.
+-- `scan::fields::take_integer` meets its contract.
 use mathlib.Core.Path.{_≡_, sym, ap, _∙_}
 use native.Mathlib.Omega.{arith}
 use lib.IntN.{ℤ, pos, negℤ}

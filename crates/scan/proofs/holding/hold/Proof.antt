@@ -1,4 +1,4 @@
--- `scan::holding::hold` meets its contract. Assumes nothing.
+-- `scan::holding::hold` meets its contract.
 use native.Mathlib.Omega.{arith}
 use Rattle.scan.specs.Held.{held}
 use borrow.Author.Needs.{needs}

@@ -1,4 +1,4 @@
--- `scan::holding::put_before` meets its contract. Assumes nothing.
+-- `scan::holding::put_before` meets its contract.
 use mathlib.Core.Path.{_≡_, sym, ap}
 use mir.Syntax.{w32}
 use mir.Val.{toZ, ofZ}

@@ -1,4 +1,4 @@
--- `scan::numbers::read_integer` meets its contract. Assumes nothing.
+-- `scan::numbers::read_integer` meets its contract.
 use mathlib.Core.Path.{_∙_}
 use Rattle.scan.proofs.NumberLaws.{some-byte, integer-minus, integer-plain}
 use borrow.Author.Needs.{needs}

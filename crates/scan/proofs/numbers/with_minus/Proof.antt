@@ -1,4 +1,4 @@
--- `scan::numbers::with_minus` meets its contract. Assumes nothing.
+-- `scan::numbers::with_minus` meets its contract.
 use mathlib.Core.Path.{sym, ap}
 use borrow.Author.Tests.{eq-eqb, ne-eqb}
 use Rattle.scan.specs.Numbers.{negated}

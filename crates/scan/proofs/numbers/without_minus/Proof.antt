@@ -1,4 +1,4 @@
--- `scan::numbers::without_minus` meets its contract. Assumes nothing.
+-- `scan::numbers::without_minus` meets its contract.
 use mathlib.Core.Path.{sym, ap}
 use Rattle.scan.specs.Numbers.{plain}
 use borrow.Author.Needs.{needs}

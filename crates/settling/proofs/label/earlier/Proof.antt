@@ -1,4 +1,4 @@
--- `settling::label::earlier` meets its contract: each way out is a law of the order. Assumes nothing.
+-- `settling::label::earlier` meets its contract: each way out is a law of the order.
 use mathlib.Core.Path.{sym}
 use Rattle.settling.proofs.Offers.{before-less, before-same, before-more}
 use Rattle.settling.proofs.label.earlier.Statement.{statement}

@@ -1,4 +1,4 @@
--- `settling::label::offer` meets its contract. Assumes nothing.
+-- `settling::label::offer` meets its contract.
 use mathlib.Core.Path.{sym, _∙_}
 use native.Mathlib.Omega.{arith}
 use borrow.Author.Tests.{not-true, not-false}

@@ -1,4 +1,4 @@
--- `settling::label::start` meets its contract. Assumes nothing.
+-- `settling::label::start` meets its contract.
 use mathlib.Core.Path.{refl}
 use borrow.Author.Needs.{needs}
 use Rattle.settling.specs.Labels.{startOf}

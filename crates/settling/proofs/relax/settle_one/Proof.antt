@@ -1,5 +1,5 @@
 -- `settling::relax::settle_one` meets its contract. The loop's invariant: the labels are those after the arcs 1..j, and j is
--- the place of the next arc out of u. Assumes nothing.
+-- the place of the next arc out of u.
 use Prim.Native.Nat.{_+_, _-_, _<_, _≤_}
 use native.Mathlib.Omega.{arith}
 use mathlib.Core.Path.{_≡_, refl, sym, _∙_}

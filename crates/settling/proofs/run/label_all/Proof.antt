@@ -1,4 +1,4 @@
--- `settling::run::label_all` meets its contract. Assumes nothing.
+-- `settling::run::label_all` meets its contract.
 use mathlib.Core.Path.{ap}
 use Rattle.settling.specs.declared.Outcome.{Outcome}
 use borrow.Author.Needs.{needs}

@@ -1,4 +1,4 @@
--- `settling::run::run` meets its contract. Assumes nothing.
+-- `settling::run::run` meets its contract.
 use Prim.Native.Nat.{ℕ}
 use mathlib.Core.Path.{refl}
 use lib.ListN.{length-replicate}

@@ -1,4 +1,4 @@
--- `settling::run::run_by` meets its contract. The loop's invariant: the run is over, or stands at the labels at hand. Assumes nothing.
+-- `settling::run::run_by` meets its contract. The loop's invariant: the run is over, or stands at the labels at hand.
 use native.Mathlib.Omega.{arith}
 use borrow.Author.Tests.{not-true, not-false}
 use mathlib.Core.Path.{refl}

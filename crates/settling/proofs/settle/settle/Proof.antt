@@ -1,4 +1,4 @@
--- `settling::settle::settle` meets its contract. The loop's invariant: the run stands at the labels at hand. Assumes nothing.
+-- `settling::settle::settle` meets its contract. The loop's invariant: the run stands at the labels at hand.
 use Prim.Native.Nat.{_+_}
 use native.Mathlib.Omega.{arith}
 use mathlib.Core.Path.{_≡_}

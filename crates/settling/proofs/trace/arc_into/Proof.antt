@@ -1,5 +1,5 @@
 -- `settling::trace::arc_into` meets its contract. The loop's invariant: the look from place j on is the whole look, and j is
--- the place of the next arc into v. Assumes nothing.
+-- the place of the next arc into v.
 use Prim.Native.Nat.{_+_, _-_, _<_, _≤_}
 use native.Mathlib.Omega.{arith}
 use mathlib.Core.Path.{_≡_, sym, _∙_}

@@ -1,4 +1,4 @@
--- `settling::trace::leads` meets its contract. Assumes nothing.
+-- `settling::trace::leads` meets its contract.
 use mathlib.Core.Path.{sym}
 use borrow.Author.Needs.{needs}
 use Rattle.settling.proofs.TraceSteps.{fits-yes, fits-no}

@@ -1,4 +1,4 @@
--- `settling::trace::trace` meets its contract. The loop's invariant: the rest of the trace gives the whole route. Assumes nothing.
+-- `settling::trace::trace` meets its contract. The loop's invariant: the rest of the trace gives the whole route.
 use Prim.Native.Nat.{ℕ, _+_, _*_, _-_, _≤_}
 use native.Mathlib.Omega.{arith}
 use mathlib.Core.Path.{_≡_, refl, sym, _∙_}

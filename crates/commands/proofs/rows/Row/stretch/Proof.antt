@@ -1,4 +1,4 @@
--- `commands::rows::Row::stretch` meets its contract. Assumes nothing.
+-- `commands::rows::Row::stretch` meets its contract.
 use mathlib.Core.Path.{_≡_, sym, ap, subst, _∙_}
 use borrow.Author.Needs.{needs}
 use Rattle.commands.specs.Rows.{stretchOf, Lies}
