@@ -127,15 +127,52 @@ fn is_end(byte: &u8) -> bool {
     *byte == b'\n'
 }
 
-/// The comparison so far.
+/// A part of the comparison: of every `of` starts of a program the one with this number, from 0.
+#[derive(Clone, Copy)]
+pub struct Part {
+    number: usize,
+    of: usize,
+}
+
+impl Part {
+    pub const WHOLE: Part = Part { number: 0, of: 1 };
+
+    /// The part that `K/N` names, K from 1 to N.
+    pub fn named(word: &str) -> Option<Part> {
+        let (number, of) = word.split_once('/')?;
+        let (number, of): (usize, usize) = (number.parse().ok()?, of.parse().ok()?);
+        (1..=of).contains(&number).then_some(Part { number: number - 1, of })
+    }
+}
+
+/// The comparison so far: the starts that came up, in all parts; the cases compared in this one, and how many were told.
 struct Comparison {
     scratch: Scratch,
+    part: Part,
+    starts: usize,
     compared: usize,
+    told: usize,
 }
 
 impl Comparison {
-    /// Compares cases in one start of the program. A mismatch is shrunk, told, and ends the comparison.
+    /// Whether the next start of a program is in this part.
+    fn next_is_mine(&mut self) -> bool {
+        self.starts += 1;
+        (self.starts - 1) % self.part.of == self.part.number
+    }
+
+    /// Tells how many cases of this kind were compared.
+    fn tell(&mut self, kind: &str) {
+        println!("{} {kind} agree", self.compared - self.told);
+        self.told = self.compared;
+    }
+
+    /// Compares cases in one start of the program, if it is in this part.
+    /// A mismatch is shrunk, told, and ends the comparison.
     fn compare(&mut self, program: &Program, cases: &[Case]) -> Result<(), String> {
+        if !self.next_is_mine() {
+            return Ok(());
+        }
         let all = Case::together(cases);
         let Some(difference) = program.difference(&self.scratch, &all, PATIENCE) else {
             self.compared += cases.len();
@@ -181,7 +218,7 @@ fn answers_at_once(console: &Program, scratch: &Scratch) -> Result<(), String> {
     }
 }
 
-/// All cases, one kind after the other, up to the first mismatch.
+/// All cases, one kind after the other, up to the first mismatch. Every part draws the same random numbers.
 fn all_agree(
     comparison: &mut Comparison,
     console: &Program,
@@ -191,7 +228,10 @@ fn all_agree(
 ) -> Result<(), String> {
     let random = &mut Random::new(seed);
     comparison.compare(console, &[hall::case()])?;
-    answers_at_once(console, &comparison.scratch)?;
+    if comparison.next_is_mine() {
+        answers_at_once(console, &comparison.scratch)?;
+    }
+    comparison.tell("cases of the hall plan");
     let mut left = count;
     while left > 0 {
         let batch = left.min(BATCH);
@@ -199,35 +239,34 @@ fn all_agree(
         comparison.compare(console, &cases)?;
         left -= batch;
     }
-    println!("{count} small cases agree");
+    comparison.tell("small cases");
     for case in streams() {
         comparison.compare(console, &[case])?;
     }
-    println!("ends of input and long lines agree");
+    comparison.tell("ends of input and long lines");
     for kind in 0..3 {
         comparison.compare(console, &[limit_case(random, kind)])?;
     }
     comparison.compare(console, &[limit_texts(random, "limit")])?;
-    println!("cases at the limits agree");
+    comparison.tell("cases at the limits");
     for _ in 0..count / SMALL_PER_BOXES {
         comparison.compare(boxes, &[boxes_case(random)])?;
     }
-    println!("{} cases of boxes agree", count / SMALL_PER_BOXES);
+    comparison.tell("cases of boxes");
     Ok(())
 }
 
-/// Compares the programs that the two commands start; true if all cases agree.
-pub fn run(console: &str, boxes: &str, seed: u64, count: usize) -> bool {
+/// Compares the programs that the two commands start; true if all cases of the part agree.
+pub fn run(part: Part, console: &str, boxes: &str, seed: u64, count: usize) -> bool {
     let console = Program::new(console, |scratch, case| scratch.demanded(&case.input()));
     let boxes = Program::new(boxes, |scratch, _| listing(&scratch.folder).into_bytes());
-    let mut comparison = Comparison { scratch: Scratch::new(), compared: 0 };
+    let mut comparison = Comparison { scratch: Scratch::new(), part, starts: 0, compared: 0, told: 0 };
     let outcome = all_agree(&mut comparison, &console, &boxes, seed, count);
-    let compared = comparison.compared;
+    let (compared, Part { number, of }) = (comparison.compared, part);
+    let from = format!("seed {seed}, part {}/{of}", number + 1);
     match &outcome {
-        Ok(()) => println!("{compared} cases compared, all agree (seed {seed})"),
-        Err(mismatch) => {
-            println!("{mismatch}{compared} cases compared before this mismatch (seed {seed})")
-        }
+        Ok(()) => println!("{compared} cases compared, all agree ({from})"),
+        Err(mismatch) => println!("{mismatch}{compared} cases compared before this mismatch ({from})"),
     }
     outcome.is_ok()
 }

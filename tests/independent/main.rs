@@ -19,9 +19,11 @@ mod scratch;
 mod selftest;
 mod shrink;
 mod sizes;
+mod talks;
 mod text;
 mod texts;
 
+use compare::Part;
 use console::{converse, Console};
 use files::{joined, read_file};
 use refusals::Refusal;
@@ -38,8 +40,9 @@ independent boxes                       what `boxes` prints for net.gr and net.c
 independent read gr FILE                a reader's reply, then the places it fills, row by row
 independent read co FILE N              the same for the coordinates of N nodes
 independent record SEED FOLDER          console commands to keep; their files are written into FOLDER
-independent compare CONSOLE BOXES [SEED] [COUNT]
+independent compare [K/N] CONSOLE BOXES [SEED] [COUNT]
                                         compares the programs these commands start, by COUNT small cases
+                                        and others; with K/N only the Kth of N parts of the same cases
 ";
 
 const SEED: u64 = 1;
@@ -73,14 +76,23 @@ fn obey(words: &[&str]) -> Result<bool, Box<dyn std::error::Error>> {
             scratch::write_files(Path::new(folder), &case.files);
             out.write_all(&case.input())?;
         }
-        ["compare", console, boxes] => return Ok(compare::run(console, boxes, SEED, COUNT)),
-        ["compare", console, boxes, seed] => return Ok(compare::run(console, boxes, seed.parse()?, COUNT)),
-        ["compare", console, boxes, seed, count] => {
-            return Ok(compare::run(console, boxes, seed.parse()?, count.parse()?))
-        }
+        ["compare", ref words @ ..] => return compared(words),
         _ => return Err(USAGE.into()),
     }
     Ok(true)
+}
+
+/// The comparison that these words ask for: all of it, or a part.
+fn compared(words: &[&str]) -> Result<bool, Box<dyn std::error::Error>> {
+    let part = words.first().and_then(|word| Part::named(word));
+    let words = if part.is_some() { &words[1..] } else { words };
+    let (console, boxes, seed, count) = match *words {
+        [console, boxes] => (console, boxes, SEED, COUNT),
+        [console, boxes, seed] => (console, boxes, seed.parse()?, COUNT),
+        [console, boxes, seed, count] => (console, boxes, seed.parse()?, count.parse()?),
+        _ => return Err(USAGE.into()),
+    };
+    Ok(compare::run(part.unwrap_or(Part::WHOLE), console, boxes, seed, count))
 }
 
 /// The lines of `read`: what the reader returns and the places it fills, or the refusal with its values.

@@ -5,8 +5,9 @@ use crate::console::LINE_BYTES;
 use crate::hall;
 use crate::random::Random;
 use crate::sizes::TEXT_BYTES;
+use crate::talks::{exchanges, TALKS};
 
-/// The recorded cases: the hall plan, every refusal, every fault, and some hundred cases from the seed.
+/// The recorded cases: the hall plan, every refusal, every fault, some hundred cases from the seed, and the talks.
 pub fn recorded(seed: u64) -> Case {
     let mut case = hall::case();
     for (name, text) in BAD_TEXTS {
@@ -29,6 +30,9 @@ pub fn recorded(seed: u64) -> Case {
     }
     for _ in 0..170 {
         case.lines.extend(call_case(&mut random).lines);
+    }
+    for (line, _) in TALKS.iter().flat_map(|talk| exchanges(talk)) {
+        case.say(line);
     }
     case.say(vec![b'x'; LINE_BYTES + 1]);
     case

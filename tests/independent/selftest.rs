@@ -13,6 +13,7 @@ use crate::random::Random;
 use crate::record::recorded;
 use crate::refusals::refused;
 use crate::scratch::Scratch;
+use crate::talks::{exchanges, TALKS};
 use crate::text::{number, read_co, read_gr, signed_number};
 use crate::texts::{co_text, gr_text};
 use std::collections::BTreeSet;
@@ -76,10 +77,9 @@ fn hall_plan(tally: &mut Tally) {
     scratch.write(&[&talk.files[..], &net].concat());
     tally.expect(listing(&scratch.folder) == hall::LISTING, "the listing of the hall plan");
 
-    let output = String::from_utf8(scratch.demanded(&talk.input())).expect("replies are plain text");
-    tally.expect(output.lines().count() == hall::TALK.len(), "one reply for each line");
-    for ((line, reply), answer) in hall::TALK.iter().zip(output.lines()) {
-        tally.expect(answer == *reply, format!("{line}: {reply}, not {answer}"));
+    replied(tally, &scratch, &hall::TALK);
+    for talk in TALKS {
+        replied(tally, &scratch, &exchanges(talk));
     }
 
     let mut lent = rows_for_reading();
@@ -90,6 +90,16 @@ fn hall_plan(tally: &mut Tally) {
     tally.expect(s[4].is_empty(), "S(5)");
     lent.boxes = [-1_000_000, 1_000_000].repeat(12);
     tally.expect(check(&lent).is_ok(), "every box at the full limits");
+}
+
+/// A talk is replied as it says.
+fn replied(tally: &mut Tally, scratch: &Scratch, talk: &[(&str, &str)]) {
+    let typed: String = talk.iter().map(|(line, _)| format!("{line}\n")).collect();
+    let output = String::from_utf8(scratch.demanded(typed.as_bytes())).expect("replies are plain text");
+    tally.expect(output.lines().count() == talk.len(), "one reply for each line");
+    for ((line, reply), answer) in talk.iter().zip(output.lines()) {
+        tally.expect(answer == *reply, format!("{line}: {reply}, not {answer}"));
+    }
 }
 
 /// Learners' error 1: boxes from one tree per node lose both ways to 4, though they hold their heads.

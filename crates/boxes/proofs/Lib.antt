@@ -1,1 +1,2 @@
+mod PrintsLaws
 pub mod Unique

@@ -1,14 +1,14 @@
--- For the same contents of the two files, one text is printed. Assumes nothing.
+-- For the same contents of the two files, one text is printed.
 use Prim.Native.Nat.{ℕ}
 use mathlib.Core.Path.{_≡_, refl, ap}
 use mathlib.Core.List.{List}
 use native.Mathlib.Omega.{arith}
-use Rattle.rules.specs.Paper.{judged-injective}
+use Rattle.rules.proofs.PaperLaws.{judged-injective}
 use Rattle.walks.specs.Rows.{Rows}
 use Rattle.files.specs.File.{Held}
-use Rattle.files.specs.Refusals.{placeLine}
+use Rattle.wording.specs.Refusals.{placeLine}
 use Rattle.dimacs.proofs.Unique.{read-gr-unique, read-co-unique}
-use Rattle.boxwork.specs.SaysLaws.{build-unique}
+use Rattle.boxwork.proofs.SaysLaws.{build-unique}
 use Rattle.boxes.specs.Prints.{PrintsPlaced, co-unread, co-refused, built, Prints, gr-unread, gr-refused, gr-read}
 
 placed-unique : {n m : ℕ} {R : Rows} {co : Held} {printed printed′ : List ℕ} → PrintsPlaced n m R co printed → PrintsPlaced n m R co printed′ → printed ≡ printed′

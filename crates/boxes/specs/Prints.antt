@@ -1,5 +1,6 @@
--- What `boxes` prints, over what `net.gr` and `net.co` hold. Assumes nothing: these are definitions.
+-- What `boxes` prints, over what `net.gr` and `net.co` hold.
 use Prim.Native.Nat.{ℕ}
+use mathlib.Core.Bool.{Bool, true, false}
 use mathlib.Core.List.{List}
 use lib.IntN.{ℤ, pos}
 use lib.ListN.{replicate}
@@ -9,10 +10,14 @@ use Rattle.rules.specs.declared.Judged.the-variants.{Fine, Refused}
 use Rattle.rules.specs.declared.Refusal.{Refusal}
 use Rattle.scan.specs.Ascii.{bytes}
 use Rattle.walks.specs.Rows.{Rows, rows}
+use Rattle.pages.specs.Page.{Puts}
 use Rattle.files.specs.File.{Held, text, unread}
-use Rattle.files.specs.Refusals.{placeLine}
+use Rattle.wording.specs.Refusals.{placeLine}
 use Rattle.listing.specs.Listing.{listing}
+use Rattle.dimacs.specs.Texts.{Outcome, read, refused}
+use Rattle.dimacs.specs.Reading.{readGr}
 use Rattle.dimacs.specs.Promise.{GrPromise, CoPromise}
+use Rattle.dimacs.specs.declared.GrReply.{GrReply}
 use Rattle.dimacs.specs.declared.GrReply.the-variants as graph
 use Rattle.dimacs.specs.declared.CoReply.the-variants as places
 use Rattle.boxwork.specs.Says.{BuildSays}
@@ -26,6 +31,11 @@ unfoldable pub builtText : ℕ → Rows → List ℤ → Judged → List ℕ
 builtText m R boxes Fine = listing (R .tails) (R .heads) (R .weights) boxes m
 builtText m R boxes (Refused r) = placeLine r
 
+-- why a graph is refused
+abbrev pub PutsRefused : GrReply → List ℕ → ℕ → List ℕ → Type 0
+PutsRefused (graph.Refused why) page end page′ = Puts (placeLine why) 0 page end page′
+PutsRefused (graph.Read n m) page end page′ = record {}
+
 -- the rows that are lent hold zeros
 abbrev pub arcRow : List ℕ
 arcRow = replicate 2048 0
@@ -35,6 +45,15 @@ nodeRow = replicate 512 (pos 0)
 
 abbrev pub boxRow : List ℤ
 boxRow = replicate 8192 (pos 0)
+
+-- what was read of `net.gr` is a graph
+unfoldable pub isRead : Outcome → Bool
+isRead (read problem lines) = true
+isRead (refused r) = false
+
+abbrev pub isGraph : Held → Bool
+isGraph unread = false
+isGraph (text held) = isRead (readGr held arcRow arcRow arcRow)
 
 -- after a graph of n nodes and m arcs was read: `net.co` is judged, then the boxes are built
 pub data PrintsPlaced (n m : ℕ) (R : Rows) : Held → List ℕ → Type 0 where
@@ -57,8 +76,3 @@ pub data Prints : Held → Held → List ℕ → Type 0 where
       → GrPromise held arcRow arcRow arcRow (graph.Read n m) tails heads weights
       → PrintsPlaced n m (rows tails heads weights) co printed
       → Prints (text held) co printed
-
--- what the two files hold
-pub record Files : Type 0 where
-  pub gr : Held
-  pub co : Held

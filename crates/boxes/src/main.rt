@@ -1,18 +1,21 @@
 // Reads `net.gr` and `net.co`, builds the boxes and prints one line per arc, or why it was refused.
 ghost use Prim.Native.Nat.{_≤_};
+ghost use mathlib.Core.Path.{_≡_};
+ghost use lib.ListN.{length};
 ghost use Rattle.walks.specs.Rows.{rows};
-ghost use Rattle.files.specs.Page.{Puts, Replied};
-ghost use Rattle.boxes.specs.Prints.{unreadLine, builtText, PrintsPlaced, Prints, Files};
+ghost use Rattle.pages.specs.Page.{Puts, Printed};
+ghost use Rattle.files.specs.File.{Within, heldIn};
+ghost use Rattle.boxes.specs.Prints.{isGraph, unreadLine, builtText, PutsRefused, PrintsPlaced, Prints};
 use dimacs::CoReply;
 use dimacs::GrReply;
-use files::page::PAGE;
-use files::page::put;
-use files::print::out;
-use files::reading::File;
-use files::reading::read_file;
-use files::refusals::put_place;
+use files::File;
+use files::read_file;
 use listing::put_listing;
+use pages::PAGE;
+use pages::put;
+use printing::out;
 use rules::Judged;
+use wording::put_place;
 
 // The line where a file cannot be read.
 fn put_unread(page: &mut [u8; PAGE]) -> usize
@@ -46,7 +49,7 @@ fn put_built(
     }
 }
 
-// Reads the places of the nodes, then builds.
+// The places of the nodes are read from a text, then the boxes are built.
 fn list_with_places(
     page: &mut [u8; PAGE],
     n: u32,
@@ -54,19 +57,19 @@ fn list_with_places(
     tails: &[u32; 2048],
     heads: &[u32; 2048],
     weights: &[u32; 2048],
+    co: &[u8],
+    places: File,
 ) -> usize
-    requires { ⌜ m ≤ 2048 ⌝ }
-    ensures { λ r. ⌜ Replied (PrintsPlaced n m (rows (now (tails .entry)) (now (heads .entry)) (now (weights .entry)))) (now (page .entry)) r (now (page .exit)) ⌝ }
+    requires { ⌜ (m ≤ 2048) × Within (length (now co)) places ⌝ }
+    ensures { λ r. ⌜ Printed (PrintsPlaced n m (rows (now (tails .entry)) (now (heads .entry)) (now (weights .entry))) (heldIn (now (co .entry)) places)) (now (page .entry)) r (now (page .exit)) ⌝ }
     ensures { λ r. ⌜ r ≤ 368640 ⌝ }
 {
-    let mut text = [0u8; 65537];
-    let file = read_file(b"net.co", &mut text);
-    let File::Bytes(k) = file else {
+    let File::Bytes(k) = places else {
         return put_unread(page);
     };
     let mut x = [0i32; 512];
     let mut y = [0i32; 512];
-    let reply = dimacs::read_co(&text[0..k], n, &mut x, &mut y);
+    let reply = dimacs::read_co(&co[..k], n, &mut x, &mut y);
     let CoReply::Refused(r) = reply else {
         let mut boxes = [0i32; 8192];
         let answer = boxwork::build(n, m, tails, heads, weights, &x, &y, &mut boxes);
@@ -75,32 +78,71 @@ fn list_with_places(
     put_place(page, 0, r)
 }
 
-// Reads the graph, then goes on.
-fn list(page: &mut [u8; PAGE]) -> usize
-    ensures { λ r. ⌜ Replied (λ (held : Files) printed. Prints (held .gr) (held .co) printed) (now (page .entry)) r (now (page .exit)) ⌝ }
+// Why a graph is refused.
+fn put_graph_refused(page: &mut [u8; PAGE], reply: GrReply) -> usize
+    ensures { λ r. ⌜ PutsRefused reply (now (page .entry)) r (now (page .exit)) ⌝ }
     ensures { λ r. ⌜ r ≤ 368640 ⌝ }
 {
-    let mut text = [0u8; 65537];
-    let file = read_file(b"net.gr", &mut text);
-    let File::Bytes(k) = file else {
+    let GrReply::Refused(why) = reply else {
+        return 0;
+    };
+    put_place(page, 0, why)
+}
+
+// What is printed, of what was read of the two files.
+fn list(page: &mut [u8; PAGE], gr: &[u8], graph: File, co: &[u8], places: File) -> usize
+    requires { ⌜ Within (length (now gr)) graph × Within (length (now co)) places ⌝ }
+    ensures { λ r. ⌜ Printed (Prints (heldIn (now (gr .entry)) graph) (heldIn (now (co .entry)) places)) (now (page .entry)) r (now (page .exit)) ⌝ }
+    ensures { λ r. ⌜ r ≤ 368640 ⌝ }
+{
+    let File::Bytes(k) = graph else {
         return put_unread(page);
     };
     let mut tails = [0u32; 2048];
     let mut heads = [0u32; 2048];
     let mut weights = [0u32; 2048];
-    let reply = dimacs::read_gr(&text[0..k], &mut tails, &mut heads, &mut weights);
-    match reply {
-        GrReply::Read(n, m) => {
-            return list_with_places(page, n, m, &tails, &heads, &weights);
-        }
-        GrReply::Refused(r) => {
-            return put_place(page, 0, r);
-        }
+    let reply = dimacs::read_gr(&gr[..k], &mut tails, &mut heads, &mut weights);
+    let GrReply::Read(n, m) = reply else {
+        return put_graph_refused(page, reply);
+    };
+    list_with_places(page, n, m, &tails, &heads, &weights, co, places)
+}
+
+// Whether what was read of `net.gr` is a graph.
+fn is_graph(gr: &[u8], graph: File) -> bool
+    requires { ⌜ Within (length (now gr)) graph ⌝ }
+    ensures { λ r. ⌜ r ≡ isGraph (heldIn (now (gr .entry)) graph) ⌝ }
+{
+    let File::Bytes(k) = graph else {
+        return false;
+    };
+    let mut tails = [0u32; 2048];
+    let mut heads = [0u32; 2048];
+    let mut weights = [0u32; 2048];
+    let reply = dimacs::read_gr(&gr[..k], &mut tails, &mut heads, &mut weights);
+    let GrReply::Read(_n, _m) = reply else {
+        return false;
+    };
+    true
+}
+
+// What was read of `net.co`, which is opened only after `net.gr` was judged.
+fn read_places(gr: &[u8], graph: File, co: &mut [u8]) -> File
+    requires { ⌜ Within (length (now gr)) graph ⌝ }
+    ensures { λ r. ⌜ Within (length (now (co .exit))) r ⌝ }
+{
+    if is_graph(gr, graph) {
+        return read_file(b"net.co", co);
     }
+    File::NoFile
 }
 
 fn main() {
+    let mut gr = [0u8; 65537];
+    let graph = read_file(b"net.gr", &mut gr);
+    let mut co = [0u8; 65537];
+    let places = read_places(&gr, graph, &mut co);
     let mut page = [0u8; PAGE];
-    let end = list(&mut page);
+    let end = list(&mut page, &gr, graph, &co, places);
     out(&page, end);
 }

@@ -1,4 +1,4 @@
--- What the loops of `drawing` leave is what the statements say: tight and updated boxes, and the first missed node. Assumes nothing.
+-- What the loops of `drawing` leave is what the statements say: tight and updated boxes, and the first missed node.
 use Prim.Native.Nat.{ℕ, _≤_}
 use mathlib.Core.Path.{_≡_, sym, ap, _∙_}
 use mathlib.Core.Logic.{_⊎_, inl, inr, ⊎-elim}
@@ -13,23 +13,26 @@ use Rattle.rules.specs.declared.Judged.the-variants.{Fine}
 use Rattle.walks.specs.Rows.{Rows, rows, Sound, at, network}
 use Rattle.walks.specs.Through.{InS, Consistent}
 use Rattle.walks.specs.Checking.{Misses, FirstMissed}
-use Rattle.settling.specs.Choice.{either, and-true, and-yes}
-use Rattle.settling.specs.LengthsTo.{test-inS, inS-test}
+use Rattle.settling.proofs.Choice.{either}
+use Rattle.rules.proofs.AndLaws.{and-true, and-yes}
+use Rattle.settling.proofs.LengthsAndS.{test-inS, inS-test}
 use Rattle.geometry.specs.Box.{Box, Holds, Upright, Smallest, holdsB}
 use Rattle.geometry.specs.Hull.{grown}
 use Rattle.geometry.specs.Row.{coordinate, boxOf}
 use Rattle.geometry.proofs.Tests.{holds-yes, yes-holds}
 use Rattle.geometry.proofs.SmallestLaws.{smallest-same, smallest-self, place-upright, place-smallest, grown-smallest, grown-upright}
 use Rattle.drawing.specs.Leads.{leadsAt, lengthsTo, leadsTo}
-use Rattle.drawing.specs.Drawn.{Drawn}
-use Rattle.drawing.specs.Grown.{Nodes, headBox, grownBy, Started, GrownHead, GrownAll}
-use Rattle.drawing.specs.Missed.{missesB, Lowest}
+use Rattle.drawing.specs.Drawn.{Drawn, boxRow}
+use Rattle.drawing.specs.Heads.{Nodes, headBox, FromHead}
+use Rattle.drawing.specs.Grown.{grownBy, GrownAll}
+use Rattle.drawing.specs.Missed.{missesNode, Lowest}
 use Rattle.drawing.proofs.GrownLaws.{Led, grown-by}
 use Rattle.drawing.proofs.DrawnLaws.{drawn-then}
-use Rattle.boxwork.specs.Judge.{updateJudged}
+use Rattle.judging.specs.Order.{updateJudged}
 use Rattle.boxwork.specs.Says.{UpdateSays, reweighted}
-use Rattle.boxwork.specs.JudgeLaws.{build-fine, check-fine, update-fine, sound-reweighted}
-use Rattle.boxwork.specs.TightLaws.{inS-range}
+use Rattle.judging.proofs.FineLaws.{build-fine, check-fine, update-fine}
+use Rattle.boxwork.proofs.ReweightedLaws.{sound-reweighted}
+use Rattle.boxwork.proofs.TightLaws.{inS-range}
 use Rattle.boxwork.specs.Tight.{PlaceOfS, Tight, Updated, HoldsNode}
 
 -- the heads of sound rows are nodes
@@ -91,12 +94,12 @@ module _ {n m : ℕ} {R : Rows} (sound : Sound n m R) where
               (led-same made));
         }
 
-  module _ (x y : List ℤ) {before mid after : List ℤ} (grown-all : Drawn m (GrownAll (leadsTo R n m) x y n) mid after) where
-    pub built-by : Drawn m (Started (R .heads) x y) before mid → Drawn m (λ e old new. Tight (network m R) x y e new) before after
-    built-by started = drawn-then {Is = Started (R .heads) x y} {Js = GrownAll (leadsTo R n m) x y n} (λ e low high p q i j. rw (j, i) (tight-made x y e low high)) started grown-all
+  module _ (x y : List ℤ) {before mid after : List ℤ} (grown-all : Drawn boxRow m (GrownAll (leadsTo R n m) x y n) mid after) where
+    pub built-by : Drawn boxRow m (FromHead true (R .heads) x y) before mid → Drawn boxRow m (λ e old new. Tight (network m R) x y e new) before after
+    built-by started = drawn-then {Is = FromHead true (R .heads) x y} {Js = GrownAll (leadsTo R n m) x y n} (λ e low high p q i j. rw (j, i) (tight-made x y e low high)) started grown-all
 
-    pub updated-by : ((e : ℕ) → 1 ≤ e → e ≤ m → Upright (boxOf before e)) → Drawn m (GrownHead (R .heads) x y) before mid → Drawn m (Updated (network m R) x y) before after
-    updated-by upright heads = drawn-then {Is = GrownHead (R .heads) x y} {Js = GrownAll (leadsTo R n m) x y n} (λ e low high p q i j. rw (j, i) (updated-made x y e low high (upright e low high))) heads grown-all
+    pub updated-by : ((e : ℕ) → 1 ≤ e → e ≤ m → Upright (boxOf before e)) → Drawn boxRow m (FromHead false (R .heads) x y) before mid → Drawn boxRow m (Updated (network m R) x y) before after
+    updated-by upright heads = drawn-then {Is = FromHead false (R .heads) x y} {Js = GrownAll (leadsTo R n m) x y n} (λ e low high p q i j. rw (j, i) (updated-made x y e low high (upright e low high))) heads grown-all
 
   -- ---- The first missed node
 
@@ -104,8 +107,8 @@ module _ {n m : ℕ} {R : Rows} (sound : Sound n m R) where
     abbrev Held : ℕ → ℕ → Bool
     Held e t = holdsB (boxOf boxes e) (coordinate x t) (coordinate y t)
 
-    missed-yes : (t e : ℕ) → 1 ≤ t → t ≤ n → 1 ≤ e → e ≤ m → missesB R n m boxes x y t e ≡ true → Misses (network m R) (HoldsNode x y boxes) e t
-    unfolding missesB
+    missed-yes : (t e : ℕ) → 1 ≤ t → t ≤ n → 1 ≤ e → e ≤ m → missesNode R n m boxes x y t e ≡ true → Misses (network m R) (HoldsNode x y boxes) e t
+    unfolding missesNode
     missed-yes t e a b c d p =
         let q = and-true (leadsTo R n m t e) (not (Held e t)) p in
         record {
@@ -113,15 +116,15 @@ module _ {n m : ℕ} {R : Rows} (sound : Sound n m R) where
           refused = λ h. false≢true (sym (not-true (Held e t) (q .1)) ∙ yes-holds (boxOf boxes e) (coordinate x t) (coordinate y t) h);
         }
 
-    missed-no : (t e : ℕ) → missesB R n m boxes x y t e ≡ false → InS (network m R) e t → HoldsNode x y boxes e t
-    unfolding missesB
+    missed-no : (t e : ℕ) → missesNode R n m boxes x y t e ≡ false → InS (network m R) e t → HoldsNode x y boxes e t
+    unfolding missesNode
     missed-no t e p i =
         let r = inS-range sound i in
         ⊎-elim (λ h. holds-yes (boxOf boxes e) (coordinate x t) (coordinate y t) h)
         (λ h. absurd (false≢true (sym p ∙ and-yes (inS-leads t e (r .2) (r .3) (r .0) (r .1) i) (ap not h))))
         (either (Held e t))
 
-    pub missed-first : {e t : ℕ} → Lowest (missesB R n m boxes x y) n m e t → FirstMissed (network m R) (HoldsNode x y boxes) e t
+    pub missed-first : {e t : ℕ} → Lowest (missesNode R n m boxes x y) n m e t → FirstMissed (network m R) (HoldsNode x y boxes) e t
     missed-first {e} {t} l = record {
       misses = missed-yes t e (l .node-low) (l .node-high) (l .arc-low) (l .arc-high) (l .passes);
       lowest-arc = λ i j h.
@@ -132,13 +135,13 @@ module _ {n m : ℕ} {R : Rows} (sound : Sound n m R) where
           elim (decLe t j) [ yes q ↦ q | no q ↦ absurd (h .refused (missed-no j e (l .node-first j (r .2) (omega arith)) (h .member))) ];
     }
 
-    pub missed-none : ((t e : ℕ) → 1 ≤ t → t ≤ n → 1 ≤ e → e ≤ m → missesB R n m boxes x y t e ≡ false) → Consistent (network m R) (HoldsNode x y boxes)
+    pub missed-none : ((t e : ℕ) → 1 ≤ t → t ≤ n → 1 ≤ e → e ≤ m → missesNode R n m boxes x y t e ≡ false) → Consistent (network m R) (HoldsNode x y boxes)
     missed-none h = record { keeps = λ e t i. let r = inS-range sound i in missed-no t e (h t e (r .2) (r .3) (r .0) (r .1)) i }
 
 -- an update that was judged fine, wrote the weight, and grew the boxes
 pub updated-says : {n m : ℕ} {R : Rows} {x y before mid after : List ℤ} {arc weight : ℕ} {weights : List ℕ}
     → updateJudged n m R x y before arc weight ≡ Fine → weights ≡ reweighted R arc weight .weights
-    → Drawn m (GrownHead (R .heads) x y) before mid → Drawn m (GrownAll (leadsTo (rows (R .tails) (R .heads) weights) n m) x y n) mid after
+    → Drawn boxRow m (FromHead false (R .heads) x y) before mid → Drawn boxRow m (GrownAll (leadsTo (rows (R .tails) (R .heads) weights) n m) x y n) mid after
     → UpdateSays n m R x y before arc weight (accepted []) weights after
 updated-says {n} {m} {R} {x} {y} {before} {arc = arc} {weight = weight} fine wrote heads all =
     let u = update-fine n m R x y before arc weight fine in

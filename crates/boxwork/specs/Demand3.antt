@@ -1,58 +1,72 @@
--- Demand 3: the yes that can be trusted. `CheckSays`, `BuildSays`, `UpdateSays`, `SearchSays` and `BoxedSays` are what the contracts
--- of `check`, `build`, `update`, `search` and `search_boxed` state, so these theorems are about what the functions return. Assumes nothing.
-use Prim.Native.Nat.{ℕ}
-use mathlib.Core.Path.{_≡_, refl, subst}
+-- Demand 3: the yes that can be trusted, in the club's words and order. `CheckSays`, `BuildSays`, `UpdateSays`, `SearchSays`
+-- and `BoxedSays` are what the contracts of `check`, `build`, `update`, `search` and `search_boxed` state, so these five are
+-- about what the functions return. Each is proved, under the name that stands with it, in proofs/Demand3.antt.
+use Prim.Native.Nat.{ℕ, _≤_}
+use mathlib.Core.Path.{_≡_}
 use mathlib.Core.Logic.{_↔_}
-use mathlib.Core.List.{List, []}
+use mathlib.Core.List.{List, [], _∷_, _++_}
 use lib.IntN.{ℤ}
-use lib.ListN.{length}
-use Rattle.rules.specs.Paper.{Reply, accepted}
-use Rattle.rules.specs.declared.Judged.{Judged}
+use lib.ListN.{length, drop}
+use Rattle.rules.specs.Paper.{Reply, accepted, refusal}
 use Rattle.rules.specs.declared.Judged.the-variants.{Fine}
+use Rattle.rules.specs.declared.Refusal.{Refusal}
+use Rattle.rules.specs.declared.Refusal.the-variants.{NoWalk}
+use Rattle.walks.specs.Least.{Reached}
 use Rattle.walks.specs.Rows.{Rows, rows, network}
 use Rattle.walks.specs.Through.{Begins}
-use Rattle.walks.specs.ThroughLaws.{inS-begins, begins-inS}
-use Rattle.walks.specs.Pruning.{pruning}
-use Rattle.search.specs.Says.{Says, SearchSays, BoxedSays, holding}
+use Rattle.search.specs.Says.{SearchSays, BoxedSays}
 use Rattle.boxwork.specs.Tight.{HoldsNode}
-use Rattle.boxwork.specs.Judge.{checkJudged}
+use Rattle.judging.specs.Order.{boxedJudged, checkJudged}
 use Rattle.boxwork.specs.Says.{BuildSays, CheckSays, UpdateSays}
-use Rattle.boxwork.specs.Agreeing.{Agree, says-agree, judged-alike}
-use Rattle.boxwork.specs.JudgeLaws.{build-fine, check-fine, update-fine, lent-reweighted}
-use Rattle.boxwork.specs.Accepting.{check-accepts, build-accepts, update-accepts, tight-accepted, updated-accepted}
 
 -- each box holds every node to which some shortest walk from that arc's tail begins with that arc
 pub record HoldsAll (m : ℕ) (R : Rows) (x y boxes : List ℤ) : Type 0 where
   pub holds : (e t : ℕ) → Begins (network m R) e t → HoldsNode x y boxes e t
 
-module _ {n m : ℕ} {R : Rows} {x y : List ℤ} where
-  -- 1. Check says yes exactly when nothing before 13 refuses and each box holds every node to which some shortest walk from that
-  -- arc's tail begins with that arc.
-  pub check-exactly : {boxes : List ℤ} → CheckSays n m R x y boxes (accepted []) ↔ ((checkJudged n m R x y boxes ≡ Fine) × HoldsAll m R x y boxes)
-  check-exactly = (
-    (λ c. let h = check-accepts c refl in (h .0, record { holds = λ e t b. h .1 .keeps e t (begins-inS b) })),
-    (λ h. CheckSays.consistent (h .0) (record { keeps = λ e t i. h .1 .holds e t (inS-begins i) })),
-  )
+-- a row that a route was written into: the places after it keep their contents
+abbrev pub withRoute : List ℕ → List ℕ → List ℕ
+withRoute route row = route ++ drop (length route) row
 
-  -- 2. After a yes, for every s and t, the search with boxes and the search without give the same length, arc count and route, and 12
-  -- exactly together.
-  pub after-yes : {boxes : List ℤ} → CheckSays n m R x y boxes (accepted []) → (s t : ℕ) {before after after′ : List ℕ} {reply reply′ : Reply}
-      → SearchSays n m R s t before reply after → BoxedSays n m R x y boxes s t before reply′ after′ → Agree reply after reply′ after′
-  after-yes {boxes} c s t {before} {after′ = after′} {reply′ = reply′} p q =
-      let h = check-accepts c refl in
-      let alike = judged-alike n m R x y boxes (h .0) s t (length before) in
-      says-agree (pruning (h .1) s t) p (subst (λ (j : Judged). Says j (holding x y boxes t (network m R)) n s t before reply′ after′) alike q)
+-- Two searches that were lent the rows `before` and `before′` agree: the same length d, arc count k and route, written into
+-- each row; or 12 together; or both are refused for the same reason. Their settled counts c may differ.
+pub data Agree (before before′ : List ℕ) : Reply → List ℕ → Reply → List ℕ → Type 0 where
+  same-route : {d k c c′ : ℕ} (route : List ℕ)
+      → Agree before before′ (accepted (d ∷ k ∷ c ∷ [])) (withRoute route before) (accepted (d ∷ k ∷ c′ ∷ [])) (withRoute route before′)
+  no-walk : {c c′ : ℕ} → Agree before before′ (refusal (NoWalk c)) before (refusal (NoWalk c′)) before′
+  same-refusal : (r : Refusal) → Agree before before′ (refusal r) before (refusal r) before′
 
-  -- 3. What build writes gets a yes.
-  pub build-yes : {before after : List ℤ} → BuildSays n m R x y before (accepted []) after → CheckSays n m R x y after (accepted [])
-  build-yes b = let h = build-accepts b refl in tight-accepted (build-fine n m R x y _ (h .0)) (h .1)
+-- a reply is 12, "no route", with some settled count
+pub record NoRoute (reply : Reply) : Type 0 where
+  pub settled : ℕ
+  pub is : reply ≡ refusal (NoWalk settled)
 
-  -- 4. What update leaves gets a yes for the new network.
-  pub update-yes : {before after : List ℤ} {arc weight : ℕ} {weights : List ℕ} → UpdateSays n m R x y before arc weight (accepted []) weights after
-      → CheckSays n m (rows (R .tails) (R .heads) weights) x y after (accepted [])
-  update-yes u =
-      let h = update-accepts u refl in
-      let f = update-fine n m R x y _ _ _ (h .0) in
-      let k = check-fine n m R x y _ (f .0) in
-      let l = build-fine n m R x y _ (k .0) in
-      rw (h .1) (updated-accepted (lent-reweighted (l .sound) _ _ (f .1) (f .2) (f .3) l) (k .1) (h .2))
+module _ (n m : ℕ) (R : Rows) (x y boxes : List ℤ) where
+  -- 1. "The check says yes exactly when each track's rectangle holds every block end to which some shortest chain from that
+  -- track's start begins with it." Nothing before 13 refuses then. `check-exactly`
+  abbrev pub CheckExactly : Type 0
+  CheckExactly = CheckSays n m R x y boxes (accepted []) ↔ ((checkJudged n m R x y boxes ≡ Fine) × HoldsAll m R x y boxes)
+
+  -- 2. "After a yes, every search that uses them gives the same length and route as a search with none," whatever rows the two
+  -- are lent for the route, if both have the n places that a search needs, or neither. `after-yes`
+  abbrev pub AfterYes : Type 0
+  AfterYes =
+      CheckSays n m R x y boxes (accepted []) → (s t : ℕ) (before before′ after after′ : List ℕ) (reply reply′ : Reply)
+      → (n ≤ length before) ↔ (n ≤ length before′)
+      → SearchSays n m R s t before reply after → BoxedSays n m R x y boxes s t before′ reply′ after′ → Agree before before′ reply after reply′ after′
+
+  -- 3. "and 'no route' exactly where no chain leads": in the whole network, if nothing before 12 refuses. `no-route-exactly`
+  abbrev pub NoRouteExactly : Type 0
+  NoRouteExactly =
+      CheckSays n m R x y boxes (accepted []) → (s t : ℕ) (before after : List ℕ) (reply : Reply)
+      → boxedJudged n m R x y boxes s t (length before) ≡ Fine
+      → BoxedSays n m R x y boxes s t before reply after → NoRoute reply ↔ (¬ Reached (network m R) s t)
+
+  -- 4. "Rectangles the box builds or updates always get a yes": those that it builds, `build-yes`
+  abbrev pub BuildYes : Type 0
+  BuildYes = (before : List ℤ) → BuildSays n m R x y before (accepted []) boxes → CheckSays n m R x y boxes (accepted [])
+
+  -- 5. and those that it updates, in the network with the new weight. `update-yes`
+  abbrev pub UpdateYes : Type 0
+  UpdateYes =
+      (before : List ℤ) (arc weight : ℕ) (weights : List ℕ) → UpdateSays n m R x y before arc weight (accepted []) weights boxes
+      → CheckSays n m (rows (R .tails) (R .heads) weights) x y boxes (accepted [])

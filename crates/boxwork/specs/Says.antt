@@ -1,4 +1,4 @@
--- What build, check and update say: for each the one relation between what is lent, the reply and the rows afterwards. Assumes nothing.
+-- What build, check and update say: for each the one relation between what is lent, the reply and the rows afterwards.
 use Prim.Native.Nat.{ℕ, _-_}
 use mathlib.Core.Path.{_≡_}
 use mathlib.Core.List.{List, []}
@@ -11,14 +11,14 @@ use Rattle.rules.specs.declared.Refusal.the-variants.{BoxMisses}
 use Rattle.walks.specs.Rows.{Rows, network}
 use Rattle.walks.specs.Through.{Consistent}
 use Rattle.walks.specs.Checking.{FirstMissed}
-use Rattle.drawing.specs.Drawn.{Drawn}
+use Rattle.drawing.specs.Drawn.{Drawn, boxRow}
 use Rattle.boxwork.specs.Tight.{Tight, Updated, HoldsNode}
-use Rattle.boxwork.specs.Judge.{buildJudged, checkJudged, updateJudged}
+use Rattle.judging.specs.Order.{buildJudged, checkJudged, updateJudged}
 
 -- Build: the tight boxes of the arcs 1..m stand in the row, whose other places keep their contents. A refusal leaves the row as it was.
 pub data BuildSays (n m : ℕ) (R : Rows) (x y before : List ℤ) : Reply → List ℤ → Type 0 where
   refused : {r : Refusal} → buildJudged n m R x y before ≡ Refused r → BuildSays n m R x y before (refusal r) before
-  built : {after : List ℤ} → buildJudged n m R x y before ≡ Fine → Drawn m (λ e old new. Tight (network m R) x y e new) before after
+  built : {after : List ℤ} → buildJudged n m R x y before ≡ Fine → Drawn boxRow m (λ e old new. Tight (network m R) x y e new) before after
       → BuildSays n m R x y before (accepted []) after
 
 -- Check: yes where the boxes are consistent, else 13 with the lowest arc and then its lowest missed node
@@ -37,5 +37,5 @@ reweighted R arc weight = record { tails = R .tails; heads = R .heads; weights =
 pub data UpdateSays (n m : ℕ) (R : Rows) (x y before : List ℤ) (arc weight : ℕ) : Reply → List ℕ → List ℤ → Type 0 where
   refused : {r : Refusal} → updateJudged n m R x y before arc weight ≡ Refused r → UpdateSays n m R x y before arc weight (refusal r) (R .weights) before
   updated : {after : List ℤ} → updateJudged n m R x y before arc weight ≡ Fine
-      → Drawn m (Updated (network m (reweighted R arc weight)) x y) before after
+      → Drawn boxRow m (Updated (network m (reweighted R arc weight)) x y) before after
       → UpdateSays n m R x y before arc weight (accepted []) (reweighted R arc weight .weights) after

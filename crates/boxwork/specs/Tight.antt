@@ -1,4 +1,4 @@
--- The tight box of an arc, what an update makes of a box, and boxes that hold their S(e). Assumes nothing.
+-- The tight box of an arc, what an update makes of a box, and boxes that hold their S(e).
 use Prim.Native.Nat.{ℕ}
 use mathlib.Core.Path.{_≡_}
 use mathlib.Core.Logic.{_⊎_}

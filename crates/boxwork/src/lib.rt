@@ -5,11 +5,9 @@ ghost use lib.ListN.{length, set};
 ghost use Rattle.rules.specs.Paper.{judgedReply};
 ghost use Rattle.walks.specs.Rows.{rows};
 ghost use Rattle.boxwork.specs.Says.{BuildSays, CheckSays, UpdateSays};
-use drawing::compare::Missed;
+use drawing::compare::Miss;
 use rules::Judged;
 use rules::Refusal;
-
-pub mod judge;
 
 // Build writes the tight boxes: each is the smallest that holds its arc's head and all of its S(e).
 pub fn build(
@@ -24,11 +22,11 @@ pub fn build(
 ) -> Judged
     ensures { λ r. ⌜ BuildSays n m (rows (now (tails .entry)) (now (heads .entry)) (now (weights .entry))) (now (x .entry)) (now (y .entry)) (now (boxes .entry)) (judgedReply r) (now (boxes .exit)) ⌝ }
 {
-    let j = judge::judge_build(n, m, tails, heads, weights, x, y, boxes);
+    let j = judging::judge_build(n, m, tails, heads, weights, x, y, boxes);
     let Judged::Fine = j else {
         return j;
     };
-    drawing::grow::start_all(m as usize, heads, x, y, boxes);
+    drawing::heads::draw_heads(true, m as usize, heads, x, y, boxes);
     drawing::grow::grow_all(n as usize, m as usize, tails, heads, weights, x, y, boxes);
     Judged::Fine
 }
@@ -46,11 +44,11 @@ pub fn check(
 ) -> Judged
     ensures { λ r. ⌜ CheckSays n m (rows (now (tails .entry)) (now (heads .entry)) (now (weights .entry))) (now (x .entry)) (now (y .entry)) (now (boxes .entry)) (judgedReply r) ⌝ }
 {
-    let j = judge::judge_check(n, m, tails, heads, weights, x, y, boxes);
+    let j = judging::judge_check(n, m, tails, heads, weights, x, y, boxes);
     let Judged::Fine = j else {
         return j;
     };
-    let missed = drawing::compare::find_missed(
+    let miss = drawing::compare::find_miss(
         n as usize,
         m as usize,
         tails,
@@ -60,7 +58,7 @@ pub fn check(
         y,
         boxes,
     );
-    let Missed::At { arc, node } = missed else {
+    let Miss::First { arc, node } = miss else {
         return Judged::Fine;
     };
     Judged::Refused(Refusal::BoxMisses { arc, node })
@@ -89,12 +87,12 @@ pub fn update(
 ) -> Judged
     ensures { λ r. ⌜ UpdateSays n m (rows (now (tails .entry)) (now (heads .entry)) (now (weights .entry))) (now (x .entry)) (now (y .entry)) (now (boxes .entry)) arc weight (judgedReply r) (now (weights .exit)) (now (boxes .exit)) ⌝ }
 {
-    let j = judge::judge_update(n, m, tails, heads, weights, x, y, boxes, arc, weight);
+    let j = judging::judge_update(n, m, tails, heads, weights, x, y, boxes, arc, weight);
     let Judged::Fine = j else {
         return j;
     };
     set_weight(weights, arc, weight);
-    drawing::grow::grow_heads(m as usize, heads, x, y, boxes);
+    drawing::heads::draw_heads(false, m as usize, heads, x, y, boxes);
     drawing::grow::grow_all(n as usize, m as usize, tails, heads, weights, x, y, boxes);
     Judged::Fine
 }

@@ -1,15 +1,17 @@
--- What the code reads word by word is what the definitions ask for. Assumes nothing.
-use mathlib.Core.Path.{_≡_, refl, sym, _∙_}
+-- What the code reads word by word is what the definitions ask for.
+use mathlib.Core.Path.{_≡_, refl, sym, ap, _∙_}
 use mathlib.Core.List.{List}
 use mathlib.Core.Bool.{Bool, cond}
 use Prim.Native.Nat.{ℕ, _<_, _≤_}
 use native.Mathlib.Omega.{arith}
+use lib.Dec.{leb}
 use lib.ListN.{length, drop}
 use borrow.Author.Tests.{le-leb, lt-leb}
 use Rattle.scan.specs.Pieces.{firstField}
 use Rattle.scan.proofs.PieceLaws.{pieces-step}
 use Rattle.commands.specs.Words.{wordsOf, word, afterWord}
-use Rattle.commands.specs.Names.{verbOf, takesWords, rowOf, placesOf, signedRow}
+use Rattle.commands.specs.Verbs.{verbOf, takesWords}
+use Rattle.commands.specs.Rows.{rowOf, stretchOf}
 use Rattle.commands.specs.Commands.{lineJudged, number, valuesJudged, withNumber, withPair, withRow, onceGood, lendAsked, showAsked, asked, commandOf}
 use Rattle.commands.specs.declared.Fault.{Fault}
 use Rattle.commands.specs.declared.Fault.the-variants.{WordCount, NoRow, LongRow}
@@ -24,9 +26,10 @@ use Rattle.commands.specs.declared.faults.Judged.the-variants.{Good, Bad
 use Rattle.commands.specs.declared.numbers.Count.{Count}
 use Rattle.commands.specs.declared.numbers.Count.the-variants as count
 use Rattle.commands.specs.declared.verbs.Verb.{Verb}
-use Rattle.commands.specs.declared.verbs.Row.{Row}
-use Rattle.commands.specs.declared.verbs.RowName.{RowName}
-use Rattle.commands.specs.declared.verbs.RowName.the-variants.{Known, Unknown}
+use Rattle.commands.specs.declared.rows.Row.{Row}
+use Rattle.commands.specs.declared.rows.Stretch.{Stretch}
+use Rattle.commands.specs.declared.rows.RowName.{RowName}
+use Rattle.commands.specs.declared.rows.RowName.the-variants.{Known, Unknown}
 use Rattle.commands.proofs.WordLaws.{words-none, word-first, words-after}
 
 -- ---- a number, two numbers, or a row, as the first words
@@ -59,14 +62,17 @@ row-unknown go s f name p q e = rw (word-first s, sym p, sym q ∙ e)
 
 -- ---- `lend` and `show` with a row
 
-pub lend-long : (words : List (List ℕ)) (row : Row) (k places : ℕ) → k ≡ length words → places ≡ placesOf row → places < k → lendAsked words row ≡ Faulty LongRow
-unfolding lendAsked
-lend-long words row k places p q h = rw (sym p, sym q, lt-leb k places h)
+abbrev lendAt : List (List ℕ) → Row → Stretch → Command
+lendAt words row s = cond (leb (length words) (s .places)) (onceGood (valuesJudged (s .kind) words) (Lend row)) (Faulty LongRow)
 
-pub lend-judged : (words : List (List ℕ)) (row : Row) (k places : ℕ) (s : Bool) (j : Judged) → k ≡ length words → places ≡ placesOf row → k ≤ places → s ≡ signedRow row → j ≡ valuesJudged s words
+pub lend-long : (words : List (List ℕ)) (row : Row) (k : ℕ) (s : Stretch) → k ≡ length words → s ≡ stretchOf row → s .places < k → lendAsked words row ≡ Faulty LongRow
+unfolding lendAsked
+lend-long words row k s p q h = ap (lendAt words row) (sym q) ∙ rw (sym p, lt-leb k (s .places) h)
+
+pub lend-judged : (words : List (List ℕ)) (row : Row) (k : ℕ) (s : Stretch) (j : Judged) → k ≡ length words → s ≡ stretchOf row → k ≤ s .places → j ≡ valuesJudged (s .kind) words
     → lendAsked words row ≡ onceGood j (Lend row)
 unfolding lendAsked
-lend-judged words row k places s j p q h e f = rw (sym p, sym q, le-leb k places h, sym e, f)
+lend-judged words row k s j p q h f = ap (lendAt words row) (sym q) ∙ rw (sym p, le-leb k (s .places) h, f)
 
 pub once-good : (j : Judged) (command : Command) → j ≡ Good → onceGood j command ≡ command
 unfolding onceGood

@@ -1,21 +1,18 @@
--- Laws of a line's faults, as the code finds them. Assumes nothing.
+-- Laws of a line's faults, as the code finds them.
 use mathlib.Core.Path.{_≡_, sym, ap₂, _∙_}
 use mathlib.Core.List.{List}
 use mathlib.Core.Bool.{Bool, true, false, cond, _||_}
 use Prim.Native.Nat.{ℕ, _+_, _<_, _≤_}
 use lib.ListN.{length, take, drop}
 use borrow.Author.Tests.{eq-eqb, ne-eqb}
-use Rattle.scan.specs.Numbers.{integerOf}
 use Rattle.scan.specs.Pieces.{firstAt, fieldsOf}
 use Rattle.commands.specs.Words.{wordsOf, holdsByte, noneEmpty}
-use Rattle.commands.specs.Numbers.{signedOf}
-use Rattle.commands.specs.Commands.{lineJudged, number, countJudged, signedJudged, valueJudged, valuesJudged, onGood}
+use Rattle.commands.specs.Commands.{lineJudged, valueJudged, valuesJudged, onGood}
 use Rattle.commands.specs.declared.Fault.{Fault}
 use Rattle.commands.specs.declared.Fault.the-variants.{EmptyLine, ControlByte, EmptyWord}
 use Rattle.commands.specs.declared.faults.Judged.{Judged}
 use Rattle.commands.specs.declared.faults.Judged.the-variants.{Good, Bad}
-use Rattle.commands.specs.declared.numbers.Count.{Count}
-use Rattle.commands.specs.declared.numbers.Signed.{Signed}
+use Rattle.commands.specs.declared.rows.Kind.{Kind}
 use Rattle.commands.proofs.WordLaws.{words-turn, words-end}
 
 -- ---- a line's bytes
@@ -35,21 +32,13 @@ line-words s a b w n p q t e = rw (ne-eqb _ _ n, ap₂ _||_ (sym p) (sym q) ∙ 
 
 -- ---- values
 
-pub value-signed : (word : List ℕ) (b : Bool) (z : Signed) → b ≡ true → z ≡ signedOf (integerOf word) → valueJudged b word ≡ signedJudged z
-unfolding valueJudged
-value-signed word b z p q = rw (p, q)
-
-pub value-count : (word : List ℕ) (b : Bool) (n : Count) → b ≡ false → n ≡ number word → valueJudged b word ≡ countJudged n
-unfolding valueJudged
-value-count word b n p q = rw (p, q)
-
 -- the word from a position on is judged as j
-pub values-turn : (b : Bool) (s t w : List ℕ) (at e : ℕ) (j : Judged) → t ≡ drop at s → e ≡ firstAt 32 t → at < length s → w ≡ take e t → j ≡ valueJudged b w
+pub values-turn : (b : Kind) (s t w : List ℕ) (at e : ℕ) (j : Judged) → t ≡ drop at s → e ≡ firstAt 32 t → at < length s → w ≡ take e t → j ≡ valueJudged b w
     → valuesJudged b (wordsOf (drop at s)) ≡ onGood j (valuesJudged b (wordsOf (drop (at + e + 1) s)))
 unfolding valuesJudged
 values-turn b s t w at e j p q h k l = rw (words-turn s t at e p q h, l, k)
 
-pub values-end : (b : Bool) (s : List ℕ) (at : ℕ) → length s ≤ at → valuesJudged b (wordsOf (drop at s)) ≡ Good
+pub values-end : (b : Kind) (s : List ℕ) (at : ℕ) → length s ≤ at → valuesJudged b (wordsOf (drop at s)) ≡ Good
 unfolding valuesJudged
 values-end b s at h = rw (words-end s at h)
 

@@ -1,19 +1,21 @@
--- Laws of the limits of 32 bits, by the tests of a number that is held. Assumes nothing.
-use mathlib.Core.Path.{_≡_}
-use mathlib.Core.Bool.{true, false, cond}
-use Prim.Native.Nat.{ℕ, _≤_, _<_, min}
+-- Laws of the limits of 32 bits, by the tests of a number that is held.
+use mathlib.Core.Path.{_≡_, refl, ap}
+use mathlib.Core.Bool.{cond}
+use Prim.Native.Nat.{ℕ, zero, suc, _+_, _-_, _≤_, _<_, min}
 use native.Mathlib.Decide.{decLe}
 use native.Mathlib.Omega.{arith}
 use lib.Dec.{leb}
-use lib.IntN.{ℤ, pos, negsuc}
-use lib.Signed.{ltZ}
-use borrow.Author.Tests.{ltb-true, ltb-false, le-leb, lt-leb}
+use lib.IntN.{pos, negsuc, negℤ, _-ℤ_, +ℤ-idl}
+use mir.Syntax.{w32}
+use mir.Val.{SFits, toZ, ofZ}
+use mir.Facts.{toZ-pos, toZ-ofZ}
+use borrow.Author.Tests.{le-leb, lt-leb}
 use Rattle.scan.specs.Held.{heldNatural, heldInteger}
 use Rattle.scan.specs.declared.numbers.Natural.{Natural}
 use Rattle.scan.specs.declared.numbers.Natural.the-variants.{Number, NoNumber}
 use Rattle.scan.specs.declared.numbers.Integer.{Integer}
-use Rattle.scan.specs.declared.numbers.Integer.the-variants.{Whole, NoWhole}
-use Rattle.commands.specs.Numbers.{countOf, signedOf}
+use Rattle.scan.specs.declared.numbers.Integer.the-variants.{Plain, Minus, NoInteger}
+use Rattle.commands.specs.Numbers.{countTo, signedOf}
 use Rattle.commands.specs.declared.Fault.the-variants.{BeyondType}
 use Rattle.commands.specs.declared.numbers.Count.the-variants as count
 use Rattle.commands.specs.declared.numbers.Signed.the-variants as signed
@@ -27,38 +29,57 @@ within most top h is not v =
       | no k ↦ rw (lt-leb (min v top) most (omega arith), lt-leb v most (omega arith))
     ]
 
-pub count-held : (n m : Natural) → n ≡ heldNatural m → countOf n ≡ countOf m
-unfolding heldNatural countOf
-count-held n (Number v) e = rw e (within 4294967295 10000000000 (omega arith) count.Is (count.Not BeyondType) v)
-count-held n NoNumber e = rw e
+pub count-held : (most : ℕ) (n m : Natural) → most < 4294967296 → n ≡ heldNatural m → countTo most n ≡ countTo most m
+unfolding heldNatural countTo
+count-held most n (Number v) h e = rw e (within most 10000000000 (omega arith) count.Is (count.Not BeyondType) v)
+count-held most n NoNumber h e = rw e
 
 pub signed-held : (n m : Integer) → n ≡ heldInteger m → signedOf n ≡ signedOf m
 unfolding heldInteger signedOf
-signed-held n (Whole (pos v)) e = rw e (within 2147483647 10000000000 (omega arith) (λ x. signed.Is (pos x)) (signed.Not BeyondType) v)
-signed-held n (Whole (negsuc v)) e = rw e (within 2147483647 9999999999 (omega arith) (λ x. signed.Is (negsuc x)) (signed.Not BeyondType) v)
-signed-held n NoWhole e = rw e
+signed-held n (Plain v) e = rw e (within 2147483647 10000000000 (omega arith) (λ x. signed.Is (pos x)) (signed.Not BeyondType) v)
+signed-held n (Minus v) e = rw e (within 2147483648 10000000000 (omega arith) (λ x. signed.Is (negℤ (pos x))) (signed.Not BeyondType) v)
+signed-held n NoInteger e = rw e
 
 -- ---- a number by the tests of its limits
 
-pub count-high : (v : ℕ) → 4294967295 < v → count.Not BeyondType ≡ countOf (Number v)
-unfolding countOf
-count-high v h = rw (lt-leb v 4294967295 h)
+pub count-high : (most v : ℕ) → most < v → count.Not BeyondType ≡ countTo most (Number v)
+unfolding countTo
+count-high most v h = rw (lt-leb v most h)
 
-pub count-in : (v : ℕ) → v ≤ 4294967295 → count.Is v ≡ countOf (Number v)
-unfolding countOf
-count-in v h = rw (le-leb v 4294967295 h)
+pub count-in : (most v : ℕ) → v ≤ most → count.Is v ≡ countTo most (Number v)
+unfolding countTo
+count-in most v h = rw (le-leb v most h)
 
-pub signed-low : (z : ℤ) → ltZ z (negsuc 2147483647) ≡ true → signed.Not BeyondType ≡ signedOf (Whole z)
+pub plain-high : (v : ℕ) → 2147483647 < v → signed.Not BeyondType ≡ signedOf (Plain v)
 unfolding signedOf
-signed-low (pos v) e = cc
-signed-low (negsuc v) e = rw (lt-leb v 2147483647 (ltb-true 2147483647 v e))
+plain-high v h = rw (lt-leb v 2147483647 h)
 
-pub signed-high : (z : ℤ) → ltZ (pos 2147483647) z ≡ true → signed.Not BeyondType ≡ signedOf (Whole z)
+pub plain-in : (v : ℕ) → v ≤ 2147483647 → signed.Is (pos v) ≡ signedOf (Plain v)
 unfolding signedOf
-signed-high (pos v) e = rw (lt-leb v 2147483647 (ltb-true 2147483647 v e))
-signed-high (negsuc v) e = cc
+plain-in v h = rw (le-leb v 2147483647 h)
 
-pub signed-in : (z : ℤ) → ltZ z (negsuc 2147483647) ≡ false → ltZ (pos 2147483647) z ≡ false → signed.Is z ≡ signedOf (Whole z)
+pub minus-high : (v : ℕ) → 2147483648 < v → signed.Not BeyondType ≡ signedOf (Minus v)
 unfolding signedOf
-signed-in (pos v) e f = rw (le-leb v 2147483647 (ltb-false 2147483647 v f))
-signed-in (negsuc v) e f = rw (le-leb v 2147483647 (ltb-false 2147483647 v e))
+minus-high v h = rw (lt-leb v 2147483648 h)
+
+pub minus-in : (v : ℕ) → v ≤ 2147483648 → signed.Is (negℤ (pos v)) ≡ signedOf (Minus v)
+unfolding signedOf
+minus-in v h = rw (le-leb v 2147483648 h)
+
+-- ---- a negative number of 32 bits
+
+less-one : (v : ℕ) → 1 ≤ v → negℤ (pos (v - 1)) -ℤ pos 1 ≡ negℤ (pos v)
+less-one zero h = absurd (omega arith)
+less-one (suc zero) h = refl
+less-one (suc (suc v)) h = let e : suc (suc v) - 1 ≡ suc v = omega arith in rw e (ap (λ (k : ℕ). negsuc (suc k)) (omega arith))
+
+pub negative-fits : (v : ℕ) → v ≤ 2147483648 → SFits w32 (negℤ (pos v))
+negative-fits zero h = record { sfits = omega arith }
+negative-fits (suc v) h = record { sfits = omega arith }
+
+-- negated in 32 bits, less one
+pub negated-is : (v : ℕ) → 1 ≤ v → v ≤ 2147483648 → pos 0 -ℤ toZ w32 (v - 1) ≡ negℤ (pos (v - 1))
+negated-is v h k = rw (toZ-pos w32 {n = v - 1} (omega arith)) (+ℤ-idl (negℤ (pos (v - 1))))
+
+pub negative-is : (v : ℕ) → 1 ≤ v → v ≤ 2147483648 → toZ w32 (ofZ w32 (pos 0 -ℤ toZ w32 (v - 1))) -ℤ pos 1 ≡ negℤ (pos v)
+negative-is v h k = rw (negated-is v h k, toZ-ofZ (negative-fits (v - 1) (omega arith))) (less-one v h)

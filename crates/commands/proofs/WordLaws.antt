@@ -1,4 +1,4 @@
--- Laws of the words of a line, and of what the code sees from a position on. Assumes nothing.
+-- Laws of the words of a line, and of what the code sees from a position on.
 use mathlib.Core.Path.{_≡_, refl, sym, ap, _∙_}
 use mathlib.Core.List.{List, [], _∷_}
 use mathlib.Core.Bool.{Bool, true, false, cond, _&&_, _||_, not, false≢true}

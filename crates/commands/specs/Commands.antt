@@ -1,15 +1,16 @@
--- What a line of the console asks for, or its first fault. Assumes nothing: these are definitions.
+-- What a line of the console asks for, or its first fault.
 use Prim.Native.Nat.{ℕ}
 use Prim.Native.Char.{code}
 use mathlib.Core.List.{List, [], _∷_}
-use mathlib.Core.Bool.{Bool, cond, _||_}
+use mathlib.Core.Bool.{cond, _||_}
 use lib.Dec.{eqb, leb}
 use lib.ListN.{length, drop}
 use Rattle.scan.specs.Pieces.{fieldsOf}
 use Rattle.scan.specs.Numbers.{naturalOf, integerOf}
 use Rattle.commands.specs.Words.{wordsOf, word, holdsByte, noneEmpty}
-use Rattle.commands.specs.Names.{verbOf, takesWords, rowOf, placesOf, signedRow}
-use Rattle.commands.specs.Numbers.{countOf, signedOf}
+use Rattle.commands.specs.Verbs.{verbOf, takesWords}
+use Rattle.commands.specs.Rows.{rowOf, placesOf, kindOf}
+use Rattle.commands.specs.Numbers.{countOf, byteOf, signedOf}
 use Rattle.commands.specs.declared.Fault.the-variants.{EmptyLine, ControlByte, EmptyWord, NoCommand, WordCount, NoRow, LongRow}
 use Rattle.commands.specs.declared.Call.the-variants as call
 use Rattle.commands.specs.declared.Shown.the-variants.{All, First}
@@ -26,9 +27,11 @@ use Rattle.commands.specs.declared.numbers.Signed.{Signed}
 use Rattle.commands.specs.declared.numbers.Signed.the-variants as signed
 use Rattle.commands.specs.declared.verbs.Verb.{Verb}
 use Rattle.commands.specs.declared.verbs.Verb.the-variants as verb
-use Rattle.commands.specs.declared.verbs.Row.{Row}
-use Rattle.commands.specs.declared.verbs.RowName.{RowName}
-use Rattle.commands.specs.declared.verbs.RowName.the-variants.{Known, Unknown}
+use Rattle.commands.specs.declared.rows.Row.{Row}
+use Rattle.commands.specs.declared.rows.Kind.{Kind}
+use Rattle.commands.specs.declared.rows.Kind.the-variants.{Counts, Numbers, Bytes}
+use Rattle.commands.specs.declared.rows.RowName.{RowName}
+use Rattle.commands.specs.declared.rows.RowName.the-variants.{Known, Unknown}
 
 -- ---- faults of a line's bytes
 
@@ -61,18 +64,24 @@ unfoldable pub signedJudged : Signed → Judged
 signedJudged (signed.Is z) = Good
 signedJudged (signed.Not fault) = Bad fault
 
--- a word where a row's number is to stand
-unfoldable pub valueJudged : Bool → List ℕ → Judged
-valueJudged isSigned word = cond isSigned (signedJudged (signedOf (integerOf word))) (countJudged (number word))
+-- a word as a byte
+abbrev pub byte : List ℕ → Count
+byte word = byteOf (naturalOf word)
+
+-- a word where a value of a row is to stand
+unfoldable pub valueJudged : Kind → List ℕ → Judged
+valueJudged Counts word = countJudged (number word)
+valueJudged Numbers word = signedJudged (signedOf (integerOf word))
+valueJudged Bytes word = countJudged (byte word)
 
 unfoldable pub onGood : Judged → Judged → Judged
 onGood Good more = more
 onGood (Bad fault) more = Bad fault
 
 -- all the values of a row; the first that is wrong decides
-unfoldable pub valuesJudged : Bool → List (List ℕ) → Judged
-valuesJudged isSigned [] = Good
-valuesJudged isSigned (w ∷ ws) = onGood (valueJudged isSigned w) (valuesJudged isSigned ws)
+unfoldable pub valuesJudged : Kind → List (List ℕ) → Judged
+valuesJudged kind [] = Good
+valuesJudged kind (w ∷ ws) = onGood (valueJudged kind w) (valuesJudged kind ws)
 
 -- ---- a command with what stands after its first word
 
@@ -94,7 +103,7 @@ onceGood (Bad fault) command = Faulty fault
 
 -- `lend` with a row's values: their count is judged before any of them
 unfoldable pub lendAsked : List (List ℕ) → Row → Command
-lendAsked values row = cond (leb (length values) (placesOf row)) (onceGood (valuesJudged (signedRow row) values) (Lend row)) (Faulty LongRow)
+lendAsked values row = cond (leb (length values) (placesOf row)) (onceGood (valuesJudged (kindOf row) values) (Lend row)) (Faulty LongRow)
 
 -- `show` with a count or without
 unfoldable pub showAsked : List (List ℕ) → Row → Command

@@ -1,4 +1,5 @@
 pub mod Words
-pub mod Names
+pub mod Verbs
+pub mod Rows
 pub mod Numbers
 pub mod Commands

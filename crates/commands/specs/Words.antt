@@ -1,11 +1,11 @@
--- The words of a line. Assumes nothing: these are definitions.
-use Prim.Native.Nat.{ℕ, _+_}
+-- The words of a line.
+use Prim.Native.Nat.{ℕ, suc, _+_}
 use Prim.Native.Char.{code}
 use mathlib.Core.List.{List, [], _∷_}
-use mathlib.Core.Bool.{Bool, true, false, _||_}
+use mathlib.Core.Bool.{Bool, true, false, cond, _||_}
 use lib.Dec.{eqb}
 use lib.ListN.{drop, getD}
-use Rattle.scan.specs.Pieces.{pieces, firstAt}
+use Rattle.scan.specs.Pieces.{pieces, firstAt, sameBytes}
 
 -- Words are divided by single spaces; an empty text has none. Where no field is empty, they are the fields.
 abbrev pub wordsOf : List ℕ → List (List ℕ)
@@ -29,3 +29,8 @@ unfoldable pub noneEmpty : List (List ℕ) → Bool
 noneEmpty [] = true
 noneEmpty ([] ∷ ws) = false
 noneEmpty ((b ∷ w) ∷ ws) = noneEmpty ws
+
+-- the place of a word among names, from 0; where it is none of them, their count
+unfoldable pub placeIn : List ℕ → List (List ℕ) → ℕ
+placeIn w [] = 0
+placeIn w (name ∷ names) = cond (sameBytes w name) 0 (suc (placeIn w names))

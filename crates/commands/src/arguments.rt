@@ -12,9 +12,9 @@ use crate::faults::Judged;
 use crate::faults::judge_values;
 use crate::numbers::Count;
 use crate::numbers::read_count;
-use crate::verbs::RowName;
+use crate::rows::RowName;
+use crate::rows::row_of;
 use crate::verbs::Verb;
-use crate::verbs::row_of;
 use crate::words::after_word;
 use crate::words::count_words;
 use crate::words::first_word;
@@ -49,10 +49,12 @@ fn lend_of(words: &[u8]) -> Command
         return Command::Faulty(Fault::NoRow);
     };
     let values = after_word(words);
-    if row.places() < count_words(values) {
+    let stretch = row.stretch();
+    if stretch.places < count_words(values) {
         return Command::Faulty(Fault::LongRow);
     }
-    let judged = judge_values(values, row.is_signed());
+    let kind = stretch.kind;
+    let judged = judge_values(values, kind);
     let Judged::Bad(fault) = judged else {
         return Command::Lend(row);
     };

@@ -1,7 +1,9 @@
 // The console's commands: what a line of words asks for, or the first fault of it.
 pub mod arguments;
 pub mod faults;
+pub mod names;
 pub mod numbers;
+pub mod rows;
 pub mod verbs;
 pub mod words;
 
@@ -10,7 +12,7 @@ ghost use Rattle.commands.specs.Commands.{commandOf};
 use crate::arguments::ask;
 use crate::faults::Judged;
 use crate::faults::judge_line;
-use crate::verbs::Row;
+use crate::rows::Row;
 use crate::verbs::takes;
 use crate::verbs::verb_of;
 use crate::words::after_word;

@@ -1,4 +1,4 @@
--- Laws of a line that was heard. Assumes nothing.
+-- Laws of a line that was heard.
 use Prim.Native.Nat.{ℕ}
 use mathlib.Core.Path.{_≡_, sym, ap, _∙_}
 use mathlib.Core.List.{List}
@@ -11,7 +11,7 @@ use Rattle.commands.specs.declared.Fault.{Fault}
 use Rattle.commands.specs.declared.Fault.the-variants.{LongLine}
 use Rattle.commands.specs.declared.Command.{Command}
 use Rattle.commands.specs.declared.Command.the-variants.{Faulty, Lend}
-use Rattle.commands.specs.declared.verbs.Row.{Row}
+use Rattle.commands.specs.declared.rows.Row.{Row}
 use Rattle.console.specs.Input.{askedBy}
 
 no-lend : {A : Type 0} (f : Fault) (row : Row) → Faulty f ≡ Lend row → A

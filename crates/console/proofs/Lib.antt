@@ -1,4 +1,3 @@
 mod AnswerLaws
 mod HeardLaws
-mod InputLaws
 pub mod Unique

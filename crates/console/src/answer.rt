@@ -1,25 +1,21 @@
 // A line is answered: its reply is put on the page.
 ghost use mathlib.Core.Path.{_≡_};
 ghost use lib.ListN.{take};
-ghost use Rattle.files.specs.Page.{Replied};
-ghost use Rattle.commands.specs.declared.Command.the-variants.{Other};
-ghost use Rattle.lending.specs.Rows.{rows, Full, Within};
-ghost use Rattle.console.specs.State.{Well};
+ghost use Prim.Native.Nat.{_≤_};
+ghost use Rattle.lending.specs.Stores.{stores, Full};
+ghost use Rattle.requests.specs.Desk.{desk};
 ghost use Rattle.console.specs.Input.{askedBy};
-ghost use Rattle.console.specs.Answers.{console, Answers, Answered};
+ghost use Rattle.console.specs.Answers.{Answered};
 use crate::state::State;
 use crate::state::start;
 use commands::Command;
 use commands::Fault;
-use commands::Request;
 use commands::command_of;
-use files::page::PAGE;
 use lending::lend;
-use lending::rows::Lent;
 use lending::rows::clear_rows;
+use pages::PAGE;
 use replies::words::put_fault;
 use replies::words::put_ok;
-use requests::Sizes;
 use requests::obey;
 use scan::pieces::front;
 
@@ -43,53 +39,6 @@ fn heard(line: &[u8], bytes: usize) -> &[u8]
     line
 }
 
-// Meets a request with just the places that are lent.
-fn lend_out(
-    page: &mut [u8; PAGE],
-    words: &[u8],
-    request: Request,
-    lent: Lent,
-    sizes: Sizes,
-    tails: &mut [u32],
-    heads: &mut [u32],
-    weights: &mut [u32],
-    x: &mut [i32],
-    y: &mut [i32],
-    boxes: &mut [i32],
-    route: &mut [u32],
-) -> State
-    requires { ⌜ Within lent × Full (rows (now tails) (now heads) (now weights) (now x) (now y) (now boxes) (now route)) ⌝ }
-    ensures { λ r. ⌜ Replied (λ held reply. Answers held (now (words .entry)) (console (rows (now (tails .entry)) (now (heads .entry)) (now (weights .entry)) (now (x .entry)) (now (y .entry)) (now (boxes .entry)) (now (route .entry))) lent sizes) (Other request) reply (console (rows (now (tails .exit)) (now (heads .exit)) (now (weights .exit)) (now (x .exit)) (now (y .exit)) (now (boxes .exit)) (now (route .exit))) (r .lent) (r .sizes))) (now (page .entry)) (r .end) (now (page .exit)) ⌝ }
-    ensures { λ r. ⌜ Well r ⌝ }
-{
-    let a = lent.tails;
-    let b = lent.heads;
-    let c = lent.weights;
-    let d = lent.x;
-    let e = lent.y;
-    let f = lent.boxes;
-    let g = lent.route;
-    let done = obey(
-        page,
-        words,
-        request,
-        sizes,
-        &mut tails[0..a],
-        &mut heads[0..b],
-        &mut weights[0..c],
-        &mut x[0..d],
-        &mut y[0..e],
-        &mut boxes[0..f],
-        &mut route[0..g],
-    );
-    let next = done.sizes;
-    State {
-        lent,
-        sizes: next,
-        end: done.end,
-    }
-}
-
 // Answers a line of so many bytes. An input that ends has no further line where no byte was left.
 pub fn answer(
     page: &mut [u8; PAGE],
@@ -97,17 +46,13 @@ pub fn answer(
     length: usize,
     ended: bool,
     state: State,
-    tails: &mut [u32],
-    heads: &mut [u32],
-    weights: &mut [u32],
-    x: &mut [i32],
-    y: &mut [i32],
-    boxes: &mut [i32],
-    route: &mut [u32],
+    counts: &mut [u32],
+    numbers: &mut [i32],
+    bytes: &mut [u8],
 ) -> State
-    requires { ⌜ Well state × Full (rows (now tails) (now heads) (now weights) (now x) (now y) (now boxes) (now route)) ⌝ }
-    ensures { λ r. ⌜ Answered (now (line .entry)) length ended (console (rows (now (tails .entry)) (now (heads .entry)) (now (weights .entry)) (now (x .entry)) (now (y .entry)) (now (boxes .entry)) (now (route .entry))) (state .lent) (state .sizes)) (now (page .entry)) (r .end) (console (rows (now (tails .exit)) (now (heads .exit)) (now (weights .exit)) (now (x .exit)) (now (y .exit)) (now (boxes .exit)) (now (route .exit))) (r .lent) (r .sizes)) (now (page .exit)) ⌝ }
-    ensures { λ r. ⌜ Well r ⌝ }
+    requires { ⌜ Full (stores (now counts) (now numbers) (now bytes)) ⌝ }
+    ensures { λ r. ⌜ Answered (now (line .entry)) length ended (desk (state .sizes) (state .lent) (now (counts .entry)) (now (numbers .entry)) (now (bytes .entry))) (now (page .entry)) (r .end) (desk (r .sizes) (r .lent) (now (counts .exit)) (now (numbers .exit)) (now (bytes .exit))) (now (page .exit)) ⌝ }
+    ensures { λ r. ⌜ r .end ≤ 368640 ⌝ }
 {
     let lent = state.lent;
     let sizes = state.sizes;
@@ -129,7 +74,7 @@ pub fn answer(
             };
         }
         Command::Lend(row) => {
-            let more = lend(words, lent, row, tails, heads, weights, x, y, boxes, route);
+            let more = lend(words, lent, row, counts, numbers, bytes);
             return State {
                 lent: more,
                 sizes,
@@ -137,7 +82,7 @@ pub fn answer(
             };
         }
         Command::Fresh => {
-            clear_rows(tails, heads, weights, x, y, boxes, route);
+            clear_rows(counts, numbers, bytes);
             let again = start();
             let all = again.lent;
             let none = again.sizes;
@@ -148,20 +93,13 @@ pub fn answer(
             };
         }
         Command::Other(request) => {
-            return lend_out(
-                page,
-                words,
-                request,
+            let done = obey(page, words, request, sizes, lent, counts, numbers, bytes);
+            let next = done.sizes;
+            return State {
                 lent,
-                sizes,
-                tails,
-                heads,
-                weights,
-                x,
-                y,
-                boxes,
-                route,
-            );
+                sizes: next,
+                end: done.end,
+            };
         }
     }
 }

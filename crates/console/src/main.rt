@@ -1,16 +1,18 @@
 // The route box at a terminal or on a pipe: one command a line, one line as its reply.
 mod answer;
-mod input;
 mod state;
 
 ghost use Prim.Native.Nat.{_<_};
-ghost use Rattle.lending.specs.Rows.{rows, Full};
+ghost use Rattle.lending.specs.Stores.{stores, Full};
 use crate::answer::answer;
-use crate::input::Input;
-use crate::input::read_line;
 use crate::state::start;
-use files::page::PAGE;
-use files::print::out;
+use commands::rows::BYTES;
+use commands::rows::COUNTS;
+use commands::rows::NUMBERS;
+use hearing::Input;
+use hearing::read_line;
+use pages::PAGE;
+use printing::out;
 
 // How many turns are left: none once the input has ended.
 fn turns_left(ended: bool, turns: u64) -> u64
@@ -28,15 +30,11 @@ fn turns_left(ended: bool, turns: u64) -> u64
 fn converse(
     line: &mut [u8],
     page: &mut [u8; PAGE],
-    tails: &mut [u32],
-    heads: &mut [u32],
-    weights: &mut [u32],
-    x: &mut [i32],
-    y: &mut [i32],
-    boxes: &mut [i32],
-    route: &mut [u32],
+    counts: &mut [u32],
+    numbers: &mut [i32],
+    bytes: &mut [u8],
 )
-    requires { ⌜ Full (rows (now tails) (now heads) (now weights) (now x) (now y) (now boxes) (now route)) ⌝ }
+    requires { ⌜ Full (stores (now counts) (now numbers) (now bytes)) ⌝ }
 {
     let mut chunk = [0u8; 4096];
     let mut ahead = Input { at: 0, end: 0 };
@@ -51,13 +49,9 @@ fn converse(
             heard.length,
             heard.ended,
             state,
-            tails,
-            heads,
-            weights,
-            x,
-            y,
-            boxes,
-            route,
+            counts,
+            numbers,
+            bytes,
         );
         out(page, state.end);
         turns = turns_left(heard.ended, turns);
@@ -67,22 +61,8 @@ fn converse(
 fn main() {
     let mut line = [0u8; 262144];
     let mut page = [0u8; PAGE];
-    let mut tails = [0u32; 4096];
-    let mut heads = [0u32; 4096];
-    let mut weights = [0u32; 4096];
-    let mut x = [0i32; 1024];
-    let mut y = [0i32; 1024];
-    let mut boxes = [0i32; 16384];
-    let mut route = [0u32; 1024];
-    converse(
-        &mut line,
-        &mut page,
-        &mut tails,
-        &mut heads,
-        &mut weights,
-        &mut x,
-        &mut y,
-        &mut boxes,
-        &mut route,
-    );
+    let mut counts = [0u32; COUNTS];
+    let mut numbers = [0i32; NUMBERS];
+    let mut bytes = [0u8; BYTES];
+    converse(&mut line, &mut page, &mut counts, &mut numbers, &mut bytes);
 }

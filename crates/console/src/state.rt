@@ -1,9 +1,9 @@
 // What the console keeps from one line to the next, beside its rows.
 ghost use mathlib.Core.Path.{_≡_};
 ghost use Rattle.console.specs.State.{fresh};
+use calls::Sizes;
 use lending::rows::Lent;
 use lending::rows::all_lent;
-use requests::Sizes;
 
 // What is lent, the numbers n and m, and where the last reply ends on the page.
 pub struct State {

@@ -1,4 +1,4 @@
--- An accepted text's rows satisfy all limits, so that refusals 5, 8 and 9 of the other parts cannot follow a reading. Assumes nothing.
+-- An accepted text's rows satisfy all limits, so that refusals 5, 8 and 9 of the other parts cannot follow a reading.
 use mathlib.Core.Path.{_≡_, refl, sym, ap, _∙_}
 use mathlib.Core.List.{List, [], _∷_, _++_, map}
 use mathlib.Core.Bool.{true, _&&_}
@@ -10,7 +10,10 @@ use lib.IntN.{ℤ, pos}
 use lib.ListN.{length, getD, drop}
 use lib.Signed.{leZ, leZ-yes, _≤ℤ_}
 use borrow.Author.Tests.{leb-true}
-use Rattle.rules.specs.Paper.{Reply, refusal, accepted, refusal-nonzero}
+use Rattle.rules.proofs.AndLaws.{and-true}
+use Rattle.rules.proofs.JudgingLaws.{both-fine, passed}
+use Rattle.rules.specs.Paper.{Reply, refusal, accepted}
+use Rattle.rules.proofs.PaperLaws.{refusal-nonzero}
 use Rattle.rules.specs.Limits.{mostNodes, longestText}
 use Rattle.rules.specs.Judging.{orElse, passes}
 use Rattle.rules.specs.declared.Refusal.{Refusal}
@@ -21,7 +24,8 @@ use Rattle.scan.specs.declared.holding.Numbers.{Numbers}
 use Rattle.dimacs.specs.Gr.{grRules}
 use Rattle.dimacs.specs.Co.{coRules}
 use Rattle.dimacs.specs.Texts.{Outcome, read, refused, readText}
-use Rattle.dimacs.specs.Rows.{columnOf, axisOf, row}
+use Rattle.dimacs.specs.Rules.{columnOf, axisOf}
+use Rattle.dimacs.specs.Rows.{row}
 use Rattle.dimacs.specs.Reading.{readGr, grSays, readCo, coSays}
 use Rattle.dimacs.specs.Promise.{GrPromise, CoPromise}
 use Rattle.dimacs.specs.Accepted.{GrLimits, CoLimits}
@@ -30,7 +34,7 @@ use Rattle.dimacs.specs.declared.CoReply.the-variants.{Read as CoRead}
 use Rattle.dimacs.specs.declared.format.Format.the-variants.{Graph, Coordinates}
 use Rattle.dimacs.specs.declared.rows.Column.the-variants.{First, Second, Third}
 use Rattle.dimacs.specs.declared.rows.Axis.the-variants.{X, Y}
-use Rattle.dimacs.proofs.Fairness.{both, or-fine, passes-fine, Inside, inside}
+use Rattle.dimacs.proofs.Fairness.{Inside, inside}
 use Rattle.dimacs.proofs.Sound.{sound, onward}
 
 -- no refusal is an acceptance
@@ -45,30 +49,30 @@ front f (l ∷ lines) old (suc i) d h = front f lines old i d (le-of-suc-le-suc 
 
 -- ---- the counts of an accepted text
 
-pub gr-count : (text : List ℕ) (p : Numbers) (lines : List Numbers) → readText Graph text ≡ read p lines → p .third ≤ 2048
+pub gr-count : (text : List ℕ) (p : Numbers) (lines : List Numbers) → readText Graph text ≡ read p lines → (p .second ≤ 2048) × (length lines ≡ p .second)
 unfolding grRules
-gr-count text p lines e = sound Graph tt text p lines e .most
+gr-count text p lines e = let s = sound Graph tt text p lines e in (s .most, s .long)
 
-pub co-count : (n : ℕ) (text : List ℕ) (p : Numbers) (lines : List Numbers) → n ≤ 512 → readText (Coordinates n) text ≡ read p lines → p .third ≡ n
+pub co-count : (n : ℕ) (text : List ℕ) (p : Numbers) (lines : List Numbers) → n ≤ 512 → readText (Coordinates n) text ≡ read p lines → (p .first ≡ n) × (length lines ≡ p .first)
 unfolding coRules
 co-count n text p lines h e =
     let s = sound (Coordinates n) h text p lines e in
-    omega (arith, s .fewest, s .most)
+    (omega (arith, s .fewest, s .most), s .long)
 
 -- ---- .gr
 
 gr-lines : (text : List ℕ) (p : Numbers) (lines : List Numbers) (a b c : List ℕ) → readText Graph text ≡ read p lines
-    → GrLimits (p .second) (p .third) (map (columnOf First) lines ++ a) (map (columnOf Second) lines ++ b) (map (columnOf Third) lines ++ c)
+    → GrLimits (p .first) (p .second) (map (columnOf First) lines ++ a) (map (columnOf Second) lines ++ b) (map (columnOf Third) lines ++ c)
 unfolding grRules
 gr-lines text p lines a b c e =
     let s = sound Graph tt text p lines e in
-    let i = inside (grRules (p .second) .problem) p (s .inside) in
-    let at : (k : ℕ) → k < p .third → k < length lines = λ k h. omega (arith, s .long) in
-    let line : (k : ℕ) → k < p .third → Inside (grRules (p .second) .entries) (getD lines k none) = λ k h. inside (grRules (p .second) .entries) (getD lines k none) (s .entry k h .inside) in
+    let i = inside (grRules (p .first) .problem) p (s .inside) in
+    let at : (k : ℕ) → k < p .second → k < length lines = λ k h. omega (arith, s .long) in
+    let line : (k : ℕ) → k < p .second → Inside (grRules (p .first) .entries) (getD lines k none) = λ k h. inside (grRules (p .first) .entries) (getD lines k none) (s .entry k h .inside) in
     record {
-      some-node = i .low .second;
-      nodes = i .high .second;
-      arcs = i .high .third;
+      some-node = i .low .first;
+      nodes = i .high .first;
+      arcs = i .high .second;
       tail-least = λ k h. rw (front (columnOf First) lines a k 0 (at k h)) (line k h .low .first);
       tail-most = λ k h. rw (front (columnOf First) lines a k 0 (at k h)) (line k h .high .first);
       head-least = λ k h. rw (front (columnOf Second) lines b k 0 (at k h)) (line k h .low .second);
@@ -89,9 +93,9 @@ gr-limits text a b c n m e = by-outcome (readGr text a b c) (gr-read text a b c)
     by-outcome : (o : Outcome) → ((p : Numbers) (lines : List Numbers) → o ≡ read p lines → readText Graph text ≡ read p lines) → grSays o ≡ accepted (n ∷ m ∷ [])
         → GrLimits n m (row (columnOf First) o a) (row (columnOf Second) o b) (row (columnOf Third) o c)
     by-outcome (read p lines) from d =
-        let en : p .second ≡ n = ap (λ (r : Reply). getD (r .values) 0 0) d in
-        let em : p .third ≡ m = ap (λ (r : Reply). getD (r .values) 1 0) d in
-        rw (← en, ← em) (gr-lines text p lines (drop (p .third) a) (drop (p .third) b) (drop (p .third) c) (from p lines refl))
+        let en : p .first ≡ n = ap (λ (r : Reply). getD (r .values) 0 0) d in
+        let em : p .second ≡ m = ap (λ (r : Reply). getD (r .values) 1 0) d in
+        rw (← en, ← em) (gr-lines text p lines (drop (length lines) a) (drop (length lines) b) (drop (length lines) c) (from p lines refl))
     by-outcome (refused r) from d = absurd (not-accepted r (n ∷ m ∷ []) d)
 
 -- ---- .co
@@ -104,7 +108,7 @@ co-lines : (n : ℕ) → n ≤ 512 → (text : List ℕ) (p : Numbers) (lines : 
 unfolding coRules
 co-lines n ok text p lines a b e =
     let s = sound (Coordinates n) ok text p lines e in
-    let all : p .third ≡ n = co-count n text p lines ok e in
+    let all : p .first ≡ n = co-count n text p lines ok e .0 in
     let at : (k : ℕ) → k < n → k < length lines = λ k h. omega (arith, s .long) in
     let line : (k : ℕ) → k < n → Inside (coRules n .entries) (getD lines k none) = λ k h. inside (coRules n .entries) (getD lines k none) (s .entry k (omega arith) .inside) in
     record {
@@ -121,10 +125,10 @@ co-read text n a b p lines e =
     let wide = leb mostNodes (length a) && leb mostNodes (length b) in
     let given = passes (leb 1 n && leb n mostNodes) (BeyondLimits 0) in
     let d = onward _ _ _ _ e in
-    let f = or-fine (passes (leb (length text) longestText) TextTooLong) (orElse (passes wide RowTooShort) (orElse given Fine)) (d .0) in
-    let g = or-fine (passes wide RowTooShort) (orElse given Fine) (f .1) in
-    let h = or-fine given Fine (g .1) in
-    let i = both (leb 1 n) (leb n mostNodes) (passes-fine _ _ (h .0)) in
+    let f = both-fine (passes (leb (length text) longestText) TextTooLong) (orElse (passes wide RowTooShort) (orElse given Fine)) (d .0) in
+    let g = both-fine (passes wide RowTooShort) (orElse given Fine) (f .1) in
+    let h = both-fine given Fine (g .1) in
+    let i = and-true (leb 1 n) (leb n mostNodes) (passed _ _ (h .0)) in
     (leb-true _ _ (i .1), d .1)
 
 co-limits : (text : List ℕ) (n : ℕ) (a b : List ℤ) → coSays (readCo text n a b) ≡ accepted []
@@ -136,17 +140,17 @@ co-limits text n a b e = by-outcome (readCo text n a b) (co-read text n a b) e
         → CoLimits n (row (axisOf X) o a) (row (axisOf Y) o b)
     by-outcome (read p lines) from d =
         let f = from p lines refl in
-        co-lines n (f .0) text p lines (drop (p .third) a) (drop (p .third) b) (f .1)
+        co-lines n (f .0) text p lines (drop (length lines) a) (drop (length lines) b) (f .1)
     by-outcome (refused r) from d = absurd (not-accepted r [] d)
 
 -- each node has its line: at a node's place stands the line that names it
 pub co-nodes : (text : List ℕ) (n : ℕ) (a b : List ℤ) (p : Numbers) (lines : List Numbers) → readCo text n a b ≡ read p lines
-    → (length lines ≡ n) × ((i : ℕ) → i < n → getD lines i none .third ≡ i + 1)
+    → (length lines ≡ n) × ((i : ℕ) → i < n → getD lines i none .first ≡ i + 1)
 unfolding coRules
 co-nodes text n a b p lines e =
     let f = co-read text n a b p lines e in
     let s = sound (Coordinates n) (f .0) text p lines (f .1) in
-    let all : p .third ≡ n = co-count n text p lines (f .0) (f .1) in
+    let all : p .first ≡ n = co-count n text p lines (f .0) (f .1) .0 in
     (s .long ∙ all, λ i h. s .entry i (omega arith) .node refl)
 
 -- ---- the rows that a reader leaves after it accepted

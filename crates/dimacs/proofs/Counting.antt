@@ -1,4 +1,4 @@
--- How many places of a row are taken. Assumes nothing.
+-- How many places of a row are taken.
 use mathlib.Core.Path.{_≡_, refl, sym, ap}
 use mathlib.Core.List.{List, [], _∷_}
 use mathlib.Core.Bool.{Bool, true, false, cond}

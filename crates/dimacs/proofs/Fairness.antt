@@ -1,4 +1,4 @@
--- Every format's rules are fair, and lines that are held alike are judged alike: reading goes by true values. Assumes nothing.
+-- Every format's rules are fair, and lines that are held alike are judged alike: reading goes by true values.
 use mathlib.Core.Path.{_≡_, refl, ap, _∙_}
 use mathlib.Core.List.{List}
 use mathlib.Core.Bool.{Bool, true, false, _&&_, not}
@@ -8,6 +8,8 @@ use lib.Dec.{leb, ltb}
 use lib.IntN.{ℤ, pos, negsuc}
 use lib.Signed.{leZ}
 use borrow.Author.Tests.{leb-true, leb-false, ltb-true, le-leb, lt-leb, not-true}
+use Rattle.rules.proofs.AndLaws.{and-true}
+use Rattle.rules.proofs.JudgingLaws.{both-fine, passed}
 use Rattle.rules.specs.Judging.{orElse, passes}
 use Rattle.rules.specs.declared.Refusal.{Refusal}
 use Rattle.rules.specs.declared.Refusal.the-variants.{OutOfOrder, BeyondLimits, CountsDisagree, NodeAgain}
@@ -17,12 +19,14 @@ use Rattle.scan.specs.Held.{held, heldZ, heldNumbers, heldLine}
 use Rattle.scan.specs.declared.holding.Numbers.{Numbers}
 use Rattle.scan.specs.declared.line.Line.{Line}
 use Rattle.scan.specs.declared.line.Line.the-variants.{Comment, Problem, Data, Faulty}
-use Rattle.dimacs.specs.Rules.{naturals, noneAbove, within}
+use Rattle.dimacs.specs.Rules.{columnOf, naturals, noneAbove, within}
 use Rattle.dimacs.specs.Gr.{grRules}
 use Rattle.dimacs.specs.Co.{coRules}
 use Rattle.dimacs.specs.Formats.{rulesOf}
-use Rattle.dimacs.specs.Judgement.{again, problemJudged, dataJudged, judged}
+use Rattle.dimacs.specs.Judgement.{announced, again, problemJudged, dataJudged, judged}
 use Rattle.dimacs.specs.Fair.{Small, Modest, ModestLimits, Fair, FormatFair}
+use Rattle.dimacs.specs.declared.rows.Column.{Column}
+use Rattle.dimacs.specs.declared.rows.Column.the-variants.{First, Second, Third}
 use Rattle.dimacs.specs.declared.format.Limits.{Limits}
 use Rattle.dimacs.specs.declared.format.Rules.{Rules}
 use Rattle.dimacs.specs.declared.format.Format.{Format}
@@ -30,39 +34,41 @@ use Rattle.dimacs.specs.declared.format.Format.the-variants.{Graph, Coor
 use Rattle.dimacs.specs.declared.judge.Head.{Head}
 use Rattle.dimacs.proofs.Counting.{clash}
 
-pub both : (a b : Bool) → a && b ≡ true → (a ≡ true) × (b ≡ true)
-both true b e = (refl, e)
-both false b e = absurd (clash e)
-
 -- ---- every format's rules
+
+-- each number of a line that may have so many
+each-column : (a b c most : ℕ) → a ≤ most → b ≤ most → c ≤ most → (which : Column) → columnOf which (naturals a b c) ≤ most
+each-column a b c most h i j First = h
+each-column a b c most h i j Second = i
+each-column a b c most h i j Third = j
 
 naturals-modest : (a b c : ℕ) → a < 10_000_000 → b < 10_000_000 → c < 10_000_000 → Modest (naturals a b c)
 naturals-modest a b c h i j = record { first = h; second = i; third = j; x = omega arith; y = omega arith }
 
-pub fair-of : (F : Format) → FormatFair F → (problem : Numbers) → problem .second ≤ 512 → Fair (rulesOf F problem)
+pub fair-of : (F : Format) → FormatFair F → (problem : Numbers) → problem .first ≤ 512 → Fair (rulesOf F problem)
 unfolding grRules coRules
 fair-of Graph f problem h =
     record {
-      problem = record { least = naturals-modest 0 1 0 (omega arith) (omega arith) (omega arith); most = naturals-modest 0 512 2048 (omega arith) (omega arith) (omega arith) };
+      problem = record { least = naturals-modest 1 0 0 (omega arith) (omega arith) (omega arith); most = naturals-modest 512 2048 0 (omega arith) (omega arith) (omega arith) };
       entries = record {
         least = naturals-modest 1 1 0 (omega arith) (omega arith) (omega arith);
-        most = naturals-modest (problem .second) (problem .second) 1_000_000 (omega arith) (omega arith) (omega arith);
+        most = naturals-modest (problem .first) (problem .first) 1_000_000 (omega arith) (omega arith) (omega arith);
       };
       nodes = omega arith;
-      count = omega arith;
+      counts = each-column 512 2048 0 2048 (omega arith) (omega arith) (omega arith);
       low = λ e. absurd (clash e);
       high = λ e. absurd (clash e);
       all = λ e. absurd (clash e);
     }
 fair-of (Coordinates n) f problem h =
     record {
-      problem = record { least = naturals-modest 0 0 1 (omega arith) (omega arith) (omega arith); most = naturals-modest 0 0 512 (omega arith) (omega arith) (omega arith) };
+      problem = record { least = naturals-modest 1 0 0 (omega arith) (omega arith) (omega arith); most = naturals-modest 512 0 0 (omega arith) (omega arith) (omega arith) };
       entries = record {
         least = record { first = omega arith; second = omega arith; third = omega arith; x = omega arith; y = omega arith };
         most = record { first = omega arith; second = omega arith; third = omega arith; x = omega arith; y = omega arith };
       };
       nodes = omega arith;
-      count = omega arith;
+      counts = each-column 512 0 0 2048 (omega arith) (omega arith) (omega arith);
       low = λ e. omega arith;
       high = λ e. omega arith;
       all = λ e. omega arith;
@@ -82,11 +88,16 @@ none-above a b e =
     let p = leb (a .first) (b .first) in
     let q = leb (a .second) (b .second) in
     let r = leb (a .third) (b .third) in
-    let e4 = both (p && q && r && leZ (a .x) (b .x)) (leZ (a .y) (b .y)) e in
-    let e3 = both (p && q && r) (leZ (a .x) (b .x)) (e4 .0) in
-    let e2 = both (p && q) r (e3 .0) in
-    let e1 = both p q (e2 .0) in
+    let e4 = and-true (p && q && r && leZ (a .x) (b .x)) (leZ (a .y) (b .y)) e in
+    let e3 = and-true (p && q && r) (leZ (a .x) (b .x)) (e4 .0) in
+    let e2 = and-true (p && q) r (e3 .0) in
+    let e1 = and-true p q (e2 .0) in
     record { first = leb-true _ _ (e1 .0); second = leb-true _ _ (e1 .1); third = leb-true _ _ (e2 .1); x = e3 .1; y = e4 .1 }
+
+pub column-below : (a b : Numbers) → NoneAbove a b → (which : Column) → columnOf which a ≤ columnOf which b
+column-below a b h First = h .first
+column-below a b h Second = h .second
+column-below a b h Third = h .third
 
 -- what within says
 pub record Inside (l : Limits) (ns : Numbers) : Type 0 where
@@ -96,13 +107,13 @@ pub record Inside (l : Limits) (ns : Numbers) : Type 0 where
 pub inside : (l : Limits) (ns : Numbers) → within l ns ≡ true → Inside l ns
 unfolding within
 inside l ns e =
-    let p = both (noneAbove (l .least) ns) (noneAbove ns (l .most)) e in
+    let p = and-true (noneAbove (l .least) ns) (noneAbove ns (l .most)) e in
     record { low = none-above (l .least) ns (p .0); high = none-above ns (l .most) (p .1) }
 
-pub once-in : (R : Rules) (ns : Numbers) → Fair R → within (R .entries) ns ≡ true → R .once ≡ true → (1 ≤ ns .third) × (ns .third ≤ 2048)
+pub once-in : (R : Rules) (ns : Numbers) → Fair R → within (R .entries) ns ≡ true → R .once ≡ true → (1 ≤ ns .first) × (ns .first ≤ 2048)
 once-in R ns f e o =
     let i = inside (R .entries) ns e in
-    (omega (arith, i .low .third, f .low o), omega (arith, i .high .third, f .high o))
+    (omega (arith, i .low .first, f .low o), omega (arith, i .high .first, f .high o))
 
 -- ---- a test against a limit, of what is held
 
@@ -172,48 +183,40 @@ module _ (l : Limits) (m : ModestLimits l) where
 
 -- ---- what a judgement that is fine says
 
-pub or-fine : (j k : Judged) → orElse j k ≡ Fine → (j ≡ Fine) × (k ≡ Fine)
-or-fine Fine k e = (refl, e)
-or-fine (Refused r) k e = absurd (let z : _≡_ {A = ℕ} 0 1 = cc in omega arith)
-
-pub passes-fine : (b : Bool) (r : Refusal) → passes b r ≡ Fine → b ≡ true
-passes-fine true r e = refl
-passes-fine false r e = absurd (let z : _≡_ {A = ℕ} 0 1 = cc in omega arith)
-
 pub record ProblemFine (R : Rules) (h : Head) (ns : Numbers) : Type 0 where
   pub inside : within (R .problem) ns ≡ true
-  pub agrees : leb (R .fewest) (ns .third) && leb (ns .third) (R .most) ≡ true
+  pub agrees : leb (R .fewest) (announced R ns) && leb (announced R ns) (R .most) ≡ true
   pub unseen : not (h .seen) ≡ true
 
 pub problem-fine : (R : Rules) (h : Head) (k : ℕ) (ns : Numbers) → problemJudged R h k ns ≡ Fine → ProblemFine R h ns
 unfolding problemJudged
 problem-fine R h k ns e =
-    let agreed = leb (R .fewest) (ns .third) && leb (ns .third) (R .most) in
-    let d = or-fine (passes (not (h .seen)) (OutOfOrder k)) (orElse (passes (within (R .problem) ns) (BeyondLimits k)) (orElse (passes agreed (CountsDisagree k)) Fine)) e in
-    let f = or-fine (passes (within (R .problem) ns) (BeyondLimits k)) (orElse (passes agreed (CountsDisagree k)) Fine) (d .1) in
-    let g = or-fine (passes agreed (CountsDisagree k)) Fine (f .1) in
-    record { inside = passes-fine _ _ (f .0); agrees = passes-fine _ _ (g .0); unseen = passes-fine _ _ (d .0) }
+    let agreed = leb (R .fewest) (announced R ns) && leb (announced R ns) (R .most) in
+    let d = both-fine (passes (not (h .seen)) (OutOfOrder k)) (orElse (passes (within (R .problem) ns) (BeyondLimits k)) (orElse (passes agreed (CountsDisagree k)) Fine)) e in
+    let f = both-fine (passes (within (R .problem) ns) (BeyondLimits k)) (orElse (passes agreed (CountsDisagree k)) Fine) (d .1) in
+    let g = both-fine (passes agreed (CountsDisagree k)) Fine (f .1) in
+    record { inside = passed _ _ (f .0); agrees = passed _ _ (g .0); unseen = passed _ _ (d .0) }
 
 pub record DataFine (R : Rules) (h : Head) (taken : List Bool) (ns : Numbers) : Type 0 where
   pub seen : h .seen ≡ true
   pub inside : within (R .entries) ns ≡ true
-  pub first-time : again R taken (ns .third) ≡ false
-  pub room : h .count < h .problem .third
+  pub first-time : again R taken (ns .first) ≡ false
+  pub room : h .count < announced R (h .problem)
 
 pub data-fine : (R : Rules) (h : Head) (taken : List Bool) (k : ℕ) (ns : Numbers) → dataJudged R h taken k ns ≡ Fine → DataFine R h taken ns
 unfolding dataJudged
 data-fine R h taken k ns e =
-    let last = orElse (passes (ltb (h .count) (h .problem .third)) (CountsDisagree k)) Fine in
-    let third = orElse (passes (not (again R taken (ns .third))) (NodeAgain k)) last in
-    let d = or-fine (passes (h .seen) (OutOfOrder k)) (orElse (passes (within (R .entries) ns) (BeyondLimits k)) third) e in
-    let f = or-fine (passes (within (R .entries) ns) (BeyondLimits k)) third (d .1) in
-    let g = or-fine (passes (not (again R taken (ns .third))) (NodeAgain k)) last (f .1) in
-    let i = or-fine (passes (ltb (h .count) (h .problem .third)) (CountsDisagree k)) Fine (g .1) in
+    let last = orElse (passes (ltb (h .count) (announced R (h .problem))) (CountsDisagree k)) Fine in
+    let third = orElse (passes (not (again R taken (ns .first))) (NodeAgain k)) last in
+    let d = both-fine (passes (h .seen) (OutOfOrder k)) (orElse (passes (within (R .entries) ns) (BeyondLimits k)) third) e in
+    let f = both-fine (passes (within (R .entries) ns) (BeyondLimits k)) third (d .1) in
+    let g = both-fine (passes (not (again R taken (ns .first))) (NodeAgain k)) last (f .1) in
+    let i = both-fine (passes (ltb (h .count) (announced R (h .problem))) (CountsDisagree k)) Fine (g .1) in
     record {
-      seen = passes-fine _ _ (d .0);
-      inside = passes-fine _ _ (f .0);
-      first-time = not-true _ (passes-fine _ _ (g .0));
-      room = ltb-true _ _ (passes-fine _ _ (i .0));
+      seen = passed _ _ (d .0);
+      inside = passed _ _ (f .0);
+      first-time = not-true _ (passed _ _ (g .0));
+      room = ltb-true _ _ (passed _ _ (i .0));
     }
 
 -- numbers beyond limits are judged alike

@@ -1,9 +1,9 @@
--- Laws of reading a text line by line, for any format. Assumes nothing.
+-- Laws of reading a text line by line, for any format.
 use mathlib.Core.Path.{_≡_, refl, sym, ap, _∙_}
 use mathlib.Core.List.{List}
 use mathlib.Core.Bool.{Bool, true, false, cond}
 use Prim.Native.Nat.{ℕ, _+_, _-_, _≤_, _<_}
-use native.Mathlib.Nat.{add-assoc}
+use native.Mathlib.Nat.{add-assoc, le-trans}
 use native.Mathlib.Omega.{arith}
 use lib.ListN.{length, take, drop, set, replicate, length-drop, drop-of-length-le}
 use lib.Seq.{drop-drop}
@@ -17,21 +17,24 @@ use Rattle.scan.specs.declared.holding.Numbers.{Numbers}
 use Rattle.scan.specs.declared.line.Line.{Line}
 use Rattle.scan.specs.declared.line.Line.the-variants.{Problem, Data}
 use Rattle.scan.proofs.PieceLaws.{pieces-step}
+use Rattle.dimacs.specs.Rules.{columnOf}
 use Rattle.dimacs.specs.Formats.{formatLine, rulesOf}
-use Rattle.dimacs.specs.Judgement.{judged, ended}
+use Rattle.dimacs.specs.Judgement.{announced, judged, ended}
 use Rattle.dimacs.specs.Texts.{Outcome, read, refused, State, place, next, onJudged, readLines, readText}
 use Rattle.dimacs.specs.Fair.{Fair, FormatFair}
+use Rattle.dimacs.specs.declared.rows.Column.{Column}
 use Rattle.dimacs.specs.declared.format.Rules.{Rules}
 use Rattle.dimacs.specs.declared.format.Format.{Format}
 use Rattle.dimacs.specs.declared.judge.Head.{Head}
-use Rattle.dimacs.proofs.Fairness.{fair-of, inside, once-in, judged-held, fine-held, problem-fine, DataFine, data-fine}
+use Rattle.dimacs.proofs.Sound.{none-counted}
+use Rattle.dimacs.proofs.Fairness.{fair-of, column-below, inside, once-in, judged-held, fine-held, problem-fine, DataFine, data-fine}
 
 -- what holds at a line's start: `at` bytes are read, the line is line k, and the state is s
 pub record Going (F : Format) (text : List ℕ) (s : State) (at k : ℕ) : Type 0 where
   pub within : at ≤ length text + 1
   pub lined : k ≤ at + 1
-  pub nodes : s .head .problem .second ≤ 512
-  pub arcs : s .head .problem .third ≤ 2048
+  pub nodes : s .head .problem .first ≤ 512
+  pub counts : (c : Column) → columnOf c (s .head .problem) ≤ 2048
   pub same : readText F text ≡ readLines F (linesOf (drop at text)) k s
 
 abbrev pub state : Head → List Bool → List Numbers → State
@@ -40,7 +43,7 @@ state h taken lines = record { head = h; taken = taken; lines = lines }
 pub going-start : (F : Format) (text : List ℕ) (a b : Numbers) → a ≡ none → b ≡ none
     → Going F text (state (record { seen = false; problem = b; count = 0 }) (replicate 2048 false) (replicate 2048 a)) 0 1
 unfolding readText
-going-start F text a b p q = rw (p, q) (record { within = omega arith; lined = omega arith; nodes = omega arith; arcs = omega arith; same = refl })
+going-start F text a b p q = rw (p, q) (record { within = omega arith; lined = omega arith; nodes = omega arith; counts = none-counted; same = refl })
 
 -- ---- one line
 
@@ -87,7 +90,7 @@ module _ (F : Format) (text : List ℕ) (h : Head) (taken : List Bool) (lines : 
     step-in = omega (arith, rw (g .text-left, length-drop) at (g .in-left), g .more)
 
     pub line-kept : next R (state h taken lines) l ≡ state h taken lines → Going F text (state h taken lines) (at + e + 1) (k + 1)
-    line-kept d = record { within = step-in; lined = omega (arith, g .going .lined); nodes = g .going .nodes; arcs = g .going .arcs; same = rw d at onward }
+    line-kept d = record { within = step-in; lined = omega (arith, g .going .lined); nodes = g .going .nodes; counts = g .going .counts; same = rw d at onward }
 
     pub line-problem : (ns : Numbers) → l ≡ Problem ns → Going F text (state (record { seen = true; problem = ns; count = h .count }) taken lines) (at + e + 1) (k + 1)
     unfolding next judged
@@ -97,8 +100,8 @@ module _ (F : Format) (text : List ℕ) (h : Head) (taken : List Bool) (lines : 
         record {
           within = step-in;
           lined = omega (arith, g .going .lined);
-          nodes = omega (arith, i .high .second, fair .nodes);
-          arcs = omega (arith, i .high .third, fair .count);
+          nodes = omega (arith, i .high .first, fair .nodes);
+          counts = λ c. le-trans (column-below _ _ (i .high) c) (fair .counts c);
           same = rw d at onward;
         }
 
@@ -106,28 +109,28 @@ module _ (F : Format) (text : List ℕ) (h : Head) (taken : List Bool) (lines : 
     unfolding judged
     data-line ns d = data-fine R h taken k ns (rw d at (sym (g .judgement) ∙ fine))
 
-    pub data-low : (ns : Numbers) → l ≡ Data ns → R .once ≡ true → 1 ≤ ns .third
+    pub data-low : (ns : Numbers) → l ≡ Data ns → R .once ≡ true → 1 ≤ ns .first
     data-low ns d o = once-in R ns fair (data-line ns d .inside) o .0
 
     pub data-room : (ns : Numbers) → l ≡ Data ns → h .count < 2048
-    data-room ns d = omega (arith, data-line ns d .room, g .going .arcs)
+    data-room ns d = omega (arith, data-line ns d .room, g .going .counts (R .count))
 
     pub data-place : (ns : Numbers) (i : ℕ) → l ≡ Data ns → i ≡ place R h ns → i < 2048
     data-place ns i d w = rw w (by-once (R .once) refl)
       where
-        by-once : (z : Bool) → R .once ≡ z → cond z (ns .third - 1) (h .count) < 2048
+        by-once : (z : Bool) → R .once ≡ z → cond z (ns .first - 1) (h .count) < 2048
         by-once true o = omega (arith, once-in R ns fair (data-line ns d .inside) o)
         by-once false o = data-room ns d
 
     pub line-data : (ns : Numbers) (i : ℕ) → l ≡ Data ns → i ≡ place R h ns
         → Going F text (state (record { seen = h .seen; problem = h .problem; count = h .count + 1 }) (set taken i true) (set lines i ns)) (at + e + 1) (k + 1)
     unfolding next
-    line-data ns i d w = record { within = step-in; lined = omega (arith, g .going .lined); nodes = g .going .nodes; arcs = g .going .arcs; same = rw w (rw d at onward) }
+    line-data ns i d w = record { within = step-in; lined = omega (arith, g .going .lined); nodes = g .going .nodes; counts = g .going .counts; same = rw w (rw d at onward) }
 
 -- ---- the end
 
-pub text-end : (F : Format) (text : List ℕ) (s : State) (at k : ℕ) (j : Judged) → Going F text s at k → length text ≤ at → j ≡ ended (s .head) k
-    → onJudged j (read (s .head .problem) (take (s .head .problem .third) (s .lines))) ≡ readText F text
+pub text-end : (F : Format) (text : List ℕ) (s : State) (at k : ℕ) (j : Judged) → Going F text s at k → length text ≤ at → j ≡ ended (rulesOf F (s .head .problem)) (s .head) k
+    → onJudged j (read (s .head .problem) (take (announced (rulesOf F (s .head .problem)) (s .head .problem)) (s .lines))) ≡ readText F text
 unfolding readLines pieces
 text-end F text s at k j g done e = sym (g .same ∙ rw (drop-of-length-le text done, ← e))
 

@@ -1,4 +1,4 @@
--- Laws of the readers' replies and of the rows that they leave. Assumes nothing.
+-- Laws of the readers' replies and of the rows that they leave.
 use mathlib.Core.Path.{_≡_, sym, _∙_}
 use mathlib.Core.List.{List, _++_, map}
 use mathlib.Core.Bool.{Bool, true, false, _&&_}
@@ -7,13 +7,15 @@ use lib.Dec.{leb}
 use lib.IntN.{ℤ}
 use lib.ListN.{length, drop}
 use borrow.Author.Tests.{leb-true, le-leb, lt-leb}
+use Rattle.rules.proofs.AndLaws.{and-true}
 use Rattle.rules.specs.declared.Refusal.{Refusal}
 use Rattle.rules.specs.declared.Refusal.the-variants.{TextTooLong, RowTooShort, BeyondLimits}
 use Rattle.rules.specs.declared.Judged.{Judged}
 use Rattle.rules.specs.declared.Judged.the-variants.{Fine, Refused}
 use Rattle.scan.specs.declared.holding.Numbers.{Numbers}
 use Rattle.dimacs.specs.Texts.{Outcome, read, refused, onJudged, readText}
-use Rattle.dimacs.specs.Rows.{columnOf, axisOf, row}
+use Rattle.dimacs.specs.Rules.{columnOf, axisOf}
+use Rattle.dimacs.specs.Rows.{row}
 use Rattle.dimacs.specs.Reading.{readGr, grSays, readCo, coSays}
 use Rattle.dimacs.specs.Promise.{GrPromise, CoPromise}
 use Rattle.dimacs.specs.declared.format.Format.the-variants.{Graph, Coordinates}
@@ -21,7 +23,6 @@ use Rattle.dimacs.specs.declared.rows.Column.the-variants.{First, Second
 use Rattle.dimacs.specs.declared.rows.Axis.the-variants.{X, Y}
 use Rattle.dimacs.specs.declared.GrReply.the-variants.{Read as GrRead, Refused as GrRefused}
 use Rattle.dimacs.specs.declared.CoReply.the-variants.{Read as CoRead, Refused as CoRefused}
-use Rattle.dimacs.proofs.Fairness.{both}
 
 -- the outcome of a text that was judged
 pub fine-outcome : (o p : Outcome) (j : Judged) → onJudged j p ≡ o → j ≡ Fine → o ≡ p
@@ -54,11 +55,11 @@ module _ (text tails heads weights : List ℕ) where
   unfolding grSays row
   gr-out r e = record { reply = rw e; tails-left = rw e; heads-left = rw e; weights-left = rw e }
 
-  pub gr-in : (p : Numbers) (lines : List Numbers) (a b c : List ℕ) → readGr text tails heads weights ≡ read p lines
-      → a ≡ map (columnOf First) lines ++ drop (p .third) tails → b ≡ map (columnOf Second) lines ++ drop (p .third) heads
-      → c ≡ map (columnOf Third) lines ++ drop (p .third) weights → GrPromise text tails heads weights (GrRead (p .second) (p .third)) a b c
+  pub gr-in : (p : Numbers) (lines : List Numbers) (a b c : List ℕ) → readGr text tails heads weights ≡ read p lines → length lines ≡ p .second
+      → a ≡ map (columnOf First) lines ++ drop (p .second) tails → b ≡ map (columnOf Second) lines ++ drop (p .second) heads
+      → c ≡ map (columnOf Third) lines ++ drop (p .second) weights → GrPromise text tails heads weights (GrRead (p .first) (p .second)) a b c
   unfolding grSays row
-  gr-in p lines a b c e f g h = record { reply = rw e; tails-left = rw e f; heads-left = rw e g; weights-left = rw e h }
+  gr-in p lines a b c e long f g h = record { reply = rw e; tails-left = rw (e, long) f; heads-left = rw (e, long) g; weights-left = rw (e, long) h }
 
 -- ---- .co
 
@@ -86,19 +87,19 @@ module _ (text : List ℕ) (n : ℕ) (x y : List ℤ) where
   unfolding coSays row
   co-out r e = record { reply = rw e; x-left = rw e; y-left = rw e }
 
-  pub co-in : (p : Numbers) (lines : List Numbers) (a b : List ℤ) → readCo text n x y ≡ read p lines
-      → a ≡ map (axisOf X) lines ++ drop (p .third) x → b ≡ map (axisOf Y) lines ++ drop (p .third) y → CoPromise text n x y CoRead a b
+  pub co-in : (p : Numbers) (lines : List Numbers) (a b : List ℤ) → readCo text n x y ≡ read p lines → length lines ≡ p .first
+      → a ≡ map (axisOf X) lines ++ drop (p .first) x → b ≡ map (axisOf Y) lines ++ drop (p .first) y → CoPromise text n x y CoRead a b
   unfolding coSays row
-  co-in p lines a b e f g = record { reply = rw e; x-left = rw e f; y-left = rw e g }
+  co-in p lines a b e long f g = record { reply = rw e; x-left = rw (e, long) f; y-left = rw (e, long) g }
 
 -- ---- there is room
 
 pub gr-room : (tails heads weights : List ℕ) → leb 2048 (length tails) && leb 2048 (length heads) && leb 2048 (length weights) ≡ true
     → (2048 ≤ length tails) × (2048 ≤ length heads) × (2048 ≤ length weights)
 gr-room tails heads weights e =
-    let d = both (leb 2048 (length tails) && leb 2048 (length heads)) (leb 2048 (length weights)) e in
-    let f = both (leb 2048 (length tails)) (leb 2048 (length heads)) (d .0) in
+    let d = and-true (leb 2048 (length tails) && leb 2048 (length heads)) (leb 2048 (length weights)) e in
+    let f = and-true (leb 2048 (length tails)) (leb 2048 (length heads)) (d .0) in
     (leb-true _ _ (f .0), leb-true _ _ (f .1), leb-true _ _ (d .1))
 
 pub two-tests : (a b c d : ℕ) → leb a b && leb c d ≡ true → (a ≤ b) × (c ≤ d)
-two-tests a b c d e = let f = both (leb a b) (leb c d) e in (leb-true _ _ (f .0), leb-true _ _ (f .1))
+two-tests a b c d e = let f = and-true (leb a b) (leb c d) e in (leb-true _ _ (f .0), leb-true _ _ (f .1))

@@ -1,4 +1,4 @@
--- Laws of the rows that are lent, for numbers of any kind. Assumes nothing.
+-- Laws of the rows that are lent, for numbers of any kind.
 use mathlib.Core.Path.{_≡_, refl, ap, _∙_}
 use mathlib.Core.List.{List, [], _∷_, _++_, map}
 use Prim.Native.Nat.{ℕ, zero, suc, _+_, _≤_, _<_}

@@ -1,14 +1,17 @@
--- What an accepted text's lines satisfy, for any format: limits, counts, and each node once. Assumes nothing.
+-- What an accepted text's lines satisfy, for any format: limits, counts, and each node once.
 use mathlib.Core.Path.{_≡_, refl, sym, ap, _∙_}
 use mathlib.Core.List.{List, [], _∷_}
 use mathlib.Core.Bool.{Bool, true, false, cond}
 use Prim.Native.Nat.{ℕ, _+_, _-_, _≤_, _<_}
+use native.Mathlib.Nat.{le-trans}
 use native.Mathlib.Decide.{ℕ-discrete}
 use native.Mathlib.Omega.{arith}
 use lib.Dec.{eqb, leb}
 use lib.ListN.{length, getD, take, set, length-set, replicate, length-replicate}
 use lib.Seq.{getD-set-same, getD-set-other, getD-take, length-take-le}
 use borrow.Author.Tests.{leb-true, eqb-true, not-true}
+use Rattle.rules.proofs.AndLaws.{and-true}
+use Rattle.rules.proofs.JudgingLaws.{passed}
 use Rattle.rules.specs.declared.Judged.{Judged}
 use Rattle.rules.specs.declared.Judged.the-variants.{Fine, Refused}
 use Rattle.scan.specs.Fields.{none}
@@ -16,51 +19,58 @@ use Rattle.scan.specs.Pieces.{linesOf}
 use Rattle.scan.specs.declared.holding.Numbers.{Numbers}
 use Rattle.scan.specs.declared.line.Line.{Line}
 use Rattle.scan.specs.declared.line.Line.the-variants.{Comment, Problem, Data, Faulty}
-use Rattle.dimacs.specs.Rules.{within}
+use Rattle.dimacs.specs.Rules.{columnOf, within}
 use Rattle.dimacs.specs.Gr.{grRules}
 use Rattle.dimacs.specs.Co.{coRules}
 use Rattle.dimacs.specs.Formats.{formatLine, rulesOf}
-use Rattle.dimacs.specs.Judgement.{judged, ended}
+use Rattle.dimacs.specs.Judgement.{announced, judged, ended}
 use Rattle.dimacs.specs.Texts.{Outcome, read, State, start, place, next, onJudged, readLines, readText}
 use Rattle.dimacs.specs.Fair.{Fair, FormatFair}
+use Rattle.dimacs.specs.declared.rows.Column.{Column}
+use Rattle.dimacs.specs.declared.rows.Column.the-variants.{First, Second, Third}
 use Rattle.dimacs.specs.declared.format.Rules.{Rules}
 use Rattle.dimacs.specs.declared.format.Format.{Format}
 use Rattle.dimacs.specs.declared.format.Format.the-variants.{Graph, Coordinates}
 use Rattle.dimacs.proofs.Counting.{trues, At, clash, trues-set, full, none-taken, trues-none}
-use Rattle.dimacs.proofs.Fairness.{both, passes-fine, fair-of, inside, once-in, problem-fine, DataFine, data-fine}
+use Rattle.dimacs.proofs.Fairness.{fair-of, column-below, inside, once-in, problem-fine, DataFine, data-fine}
 
 -- a data line is within limits, and one of each node stands at its node's place
 pub record Entry (R : Rules) (i : ℕ) (ns : Numbers) : Type 0 where
   pub inside : within (R .entries) ns ≡ true
-  pub node : R .once ≡ true → ns .third ≡ i + 1
+  pub node : R .once ≡ true → ns .first ≡ i + 1
 
 -- what is asked of an accepted text
 pub record Sound (F : Format) (problem : Numbers) (lines : List Numbers) : Type 0 where
   pub inside : within (rulesOf F problem .problem) problem ≡ true
-  pub fewest : rulesOf F problem .fewest ≤ problem .third
-  pub most : problem .third ≤ rulesOf F problem .most
-  pub long : length lines ≡ problem .third
-  pub entry : (i : ℕ) → i < problem .third → Entry (rulesOf F problem) i (getD lines i none)
+  pub fewest : rulesOf F problem .fewest ≤ announced (rulesOf F problem) problem
+  pub most : announced (rulesOf F problem) problem ≤ rulesOf F problem .most
+  pub long : length lines ≡ announced (rulesOf F problem) problem
+  pub entry : (i : ℕ) → i < announced (rulesOf F problem) problem → Entry (rulesOf F problem) i (getD lines i none)
 
 -- the places that data lines may stand at so far
 abbrev reach : Rules → State → ℕ
-reach R s = cond (R .once) (R .entries .most .third) (s .head .count)
+reach R s = cond (R .once) (R .entries .most .first) (s .head .count)
 
 -- what holds of the state at a line's start
 record Kept (F : Format) (s : State) : Type 0 where
   pub taken-long : length (s .taken) ≡ 2048
   pub lines-long : length (s .lines) ≡ 2048
   pub unseen : s .head .seen ≡ false → s .head .count ≡ 0
-  pub nodes : s .head .problem .second ≤ 512
-  pub arcs : s .head .problem .third ≤ 2048
+  pub nodes : s .head .problem .first ≤ 512
+  pub counts : (c : Column) → columnOf c (s .head .problem) ≤ 2048
   pub problem : s .head .seen ≡ true → within (rulesOf F (s .head .problem) .problem) (s .head .problem) ≡ true
-  pub fewest : s .head .seen ≡ true → rulesOf F (s .head .problem) .fewest ≤ s .head .problem .third
-  pub most : s .head .seen ≡ true → s .head .problem .third ≤ rulesOf F (s .head .problem) .most
+  pub fewest : s .head .seen ≡ true → rulesOf F (s .head .problem) .fewest ≤ announced (rulesOf F (s .head .problem)) (s .head .problem)
+  pub most : s .head .seen ≡ true → announced (rulesOf F (s .head .problem)) (s .head .problem) ≤ rulesOf F (s .head .problem) .most
   pub counted : trues (s .taken) ≡ s .head .count
   pub below : (i : ℕ) → At (s .taken) i → i < reach (rulesOf F (s .head .problem)) s
   pub entry : (i : ℕ) → At (s .taken) i → Entry (rulesOf F (s .head .problem)) i (getD (s .lines) i none)
 
 -- ---- the start
+
+pub none-counted : (c : Column) → columnOf c none ≤ 2048
+none-counted First = omega arith
+none-counted Second = omega arith
+none-counted Third = omega arith
 
 start-kept : (F : Format) → Kept F start
 start-kept F =
@@ -70,7 +80,7 @@ start-kept F =
       lines-long = length-replicate {A = Numbers} 2048 none;
       unseen = λ e. refl;
       nodes = omega arith;
-      arcs = omega arith;
+      counts = none-counted;
       problem = λ e. absurd (clash e);
       fewest = λ e. absurd (clash e);
       most = λ e. absurd (clash e);
@@ -82,10 +92,11 @@ start-kept F =
 -- ---- a problem line
 
 -- what a format asks of its problem line does not hang on it
-alike-rules : (F : Format) (a b : Numbers) → (rulesOf F a .problem ≡ rulesOf F b .problem) × (rulesOf F a .fewest ≡ rulesOf F b .fewest) × (rulesOf F a .most ≡ rulesOf F b .most)
+alike-rules : (F : Format) (a b : Numbers)
+    → (rulesOf F a .problem ≡ rulesOf F b .problem) × (rulesOf F a .fewest ≡ rulesOf F b .fewest) × (rulesOf F a .most ≡ rulesOf F b .most) × (rulesOf F a .count ≡ rulesOf F b .count)
 unfolding grRules coRules
-alike-rules Graph a b = (refl, refl, refl)
-alike-rules (Coordinates n) a b = (refl, refl, refl)
+alike-rules Graph a b = (refl, refl, refl, refl)
+alike-rules (Coordinates n) a b = (refl, refl, refl, refl)
 
 module _ (F : Format) (ok : FormatFair F) (s : State) (g : Kept F s) (k : ℕ) where
   fair : Fair (rulesOf F (s .head .problem))
@@ -98,17 +109,17 @@ module _ (F : Format) (ok : FormatFair F) (s : State) (g : Kept F s) (k : ℕ) w
       let f = problem-fine R (s .head) k ns e in
       let i = inside (R .problem) ns (f .inside) in
       let same = alike-rules F (s .head .problem) ns in
-      let agreed = both (leb (R .fewest) (ns .third)) (leb (ns .third) (R .most)) (f .agrees) in
+      let agreed = and-true (leb (R .fewest) (announced R ns)) (leb (announced R ns) (R .most)) (f .agrees) in
       let empty : trues (s .taken) ≡ 0 = g .counted ∙ g .unseen (not-true _ (f .unseen)) in
       record {
         taken-long = g .taken-long;
         lines-long = g .lines-long;
         unseen = λ d. absurd (clash (sym d));
-        nodes = omega (arith, i .high .second, fair .nodes);
-        arcs = omega (arith, i .high .third, fair .count);
+        nodes = omega (arith, i .high .first, fair .nodes);
+        counts = λ c. le-trans (column-below _ _ (i .high) c) (fair .counts c);
         problem = λ d. rw (← same .0) (f .inside);
-        fewest = λ d. rw (← same .1) (leb-true _ _ (agreed .0));
-        most = λ d. rw (← same .2) (leb-true _ _ (agreed .1));
+        fewest = λ d. rw (← same .1, ← same .3) (leb-true _ _ (agreed .0));
+        most = λ d. rw (← same .2, ← same .3) (leb-true _ _ (agreed .1));
         counted = g .counted;
         below = λ j a. absurd (none-taken (s .taken) empty j a);
         entry = λ j a. absurd (none-taken (s .taken) empty j a);
@@ -125,10 +136,10 @@ module _ (F : Format) (ok : FormatFair F) (s : State) (g : Kept F s) (k : ℕ) (
   fair-rules : Fair R
   fair-rules = rw er (fair-of F ok (s .head .problem) (g .nodes))
 
-  node-place : R .once ≡ true → i + 1 ≡ ns .third
+  node-place : R .once ≡ true → i + 1 ≡ ns .first
   node-place o =
       let p = once-in R ns fair-rules (f .inside) o in
-      let q : place R (s .head) ns ≡ ns .third - 1 = rw o in
+      let q : place R (s .head) ns ≡ ns .first - 1 = rw o in
       omega (arith, ei ∙ q)
 
   next-place : R .once ≡ false → i ≡ s .head .count
@@ -139,7 +150,7 @@ module _ (F : Format) (ok : FormatFair F) (s : State) (g : Kept F s) (k : ℕ) (
     where
       by-once : (z : Bool) → R .once ≡ z → i < 2048
       by-once true o = omega (arith, node-place o, once-in R ns fair-rules (f .inside) o)
-      by-once false o = omega (arith, next-place o, f .room, g .arcs)
+      by-once false o = omega (arith, next-place o, f .room, g .counts (R .count))
 
   below-before : (j : ℕ) → At (s .taken) j → j < reach R s
   below-before j a = rw er (g .below j a)
@@ -155,18 +166,18 @@ module _ (F : Format) (ok : FormatFair F) (s : State) (g : Kept F s) (k : ℕ) (
       by-once true o = rw (ei, o) (rw o at (f .first-time))
       by-once false o = by-mark (getD (s .taken) i false) refl o
 
-  reach-more : (j : ℕ) → j < reach R s → j < cond (R .once) (R .entries .most .third) (s .head .count + 1)
+  reach-more : (j : ℕ) → j < reach R s → j < cond (R .once) (R .entries .most .first) (s .head .count + 1)
   reach-more j h = by-once (R .once) h
     where
-      by-once : (z : Bool) → j < cond z (R .entries .most .third) (s .head .count) → j < cond z (R .entries .most .third) (s .head .count + 1)
+      by-once : (z : Bool) → j < cond z (R .entries .most .first) (s .head .count) → j < cond z (R .entries .most .first) (s .head .count + 1)
       by-once true b = b
       by-once false b = omega arith
 
-  reach-place : i < cond (R .once) (R .entries .most .third) (s .head .count + 1)
+  reach-place : i < cond (R .once) (R .entries .most .first) (s .head .count + 1)
   reach-place = by-once (R .once) refl
     where
-      by-once : (z : Bool) → R .once ≡ z → i < cond z (R .entries .most .third) (s .head .count + 1)
-      by-once true o = omega (arith, node-place o, inside (R .entries) ns (f .inside) .high .third)
+      by-once : (z : Bool) → R .once ≡ z → i < cond z (R .entries .most .first) (s .head .count + 1)
+      by-once true o = omega (arith, node-place o, inside (R .entries) ns (f .inside) .high .first)
       by-once false o = omega (arith, next-place o)
 
   kept-data : Kept F (record { head = record { seen = s .head .seen; problem = s .head .problem; count = s .head .count + 1 }; taken = set (s .taken) i true; lines = set (s .lines) i ns })
@@ -178,7 +189,7 @@ module _ (F : Format) (ok : FormatFair F) (s : State) (g : Kept F s) (k : ℕ) (
         lines-long = length-set (s .lines) i ns ∙ g .lines-long;
         unseen = λ d. absurd (clash (sym d ∙ f .seen));
         nodes = g .nodes;
-        arcs = g .arcs;
+        counts = g .counts;
         problem = g .problem;
         fewest = g .fewest;
         most = g .most;
@@ -210,14 +221,15 @@ kept-line F ok s g k (Data ns) e =
     kept-data F ok s g k ns R refl (data-fine R (s .head) (s .taken) k ns e) (place R (s .head) ns) refl
 kept-line F ok s g k (Faulty f) e = g
 
-kept-end : (F : Format) → FormatFair F → (s : State) (k : ℕ) → Kept F s → ended (s .head) k ≡ Fine → Sound F (s .head .problem) (take (s .head .problem .third) (s .lines))
+kept-end : (F : Format) → FormatFair F → (s : State) (k : ℕ) → Kept F s → ended (rulesOf F (s .head .problem)) (s .head) k ≡ Fine
+    → Sound F (s .head .problem) (take (announced (rulesOf F (s .head .problem)) (s .head .problem)) (s .lines))
 unfolding ended
 kept-end F ok s k g e =
-    let m = s .head .problem .third in
     let R = rulesOf F (s .head .problem) in
-    let d = both (s .head .seen) (eqb (s .head .count) m) (passes-fine _ _ e) in
+    let m = announced R (s .head .problem) in
+    let d = and-true (s .head .seen) (eqb (s .head .count) m) (passed _ _ e) in
     let all : s .head .count ≡ m = eqb-true _ _ (d .1) in
-    let in-lines : m ≤ length (s .lines) = omega (arith, g .arcs, g .lines-long) in
+    let in-lines : m ≤ length (s .lines) = omega (arith, g .counts (R .count), g .lines-long) in
     record {
       inside = g .problem (d .0);
       fewest = g .fewest (d .0);
@@ -226,8 +238,8 @@ kept-end F ok s k g e =
       entry = λ i h. rw (getD-take m (s .lines) i none h) (g .entry i (full (s .taken) m (λ j a. by-once (R .once) refl (d .0) all j (g .below j a)) (omega (arith, g .counted)) i h));
     }
   where
-    by-once : (z : Bool) → rulesOf F (s .head .problem) .once ≡ z → s .head .seen ≡ true → s .head .count ≡ s .head .problem .third
-        → (j : ℕ) → j < cond z (rulesOf F (s .head .problem) .entries .most .third) (s .head .count) → j < s .head .problem .third
+    by-once : (z : Bool) → rulesOf F (s .head .problem) .once ≡ z → s .head .seen ≡ true → s .head .count ≡ announced (rulesOf F (s .head .problem)) (s .head .problem)
+        → (j : ℕ) → j < cond z (rulesOf F (s .head .problem) .entries .most .first) (s .head .count) → j < announced (rulesOf F (s .head .problem)) (s .head .problem)
     by-once true o d all j h = omega (arith, fair-of F ok (s .head .problem) (g .nodes) .all o, g .fewest d)
     by-once false o d all j h = omega arith
 
@@ -236,7 +248,7 @@ unfolding readLines
 sound-lines F ok [] k s g p lines e =
     let d = onward _ _ _ _ e in
     let a : s .head .problem ≡ p = cc in
-    let b : take (s .head .problem .third) (s .lines) ≡ lines = cc in
+    let b : take (announced (rulesOf F (s .head .problem)) (s .head .problem)) (s .lines) ≡ lines = cc in
     rw (← a, ← b) (kept-end F ok s k g (d .0))
 sound-lines F ok (l ∷ ls) k s g p lines e =
     let d = onward _ _ _ _ e in

@@ -1,10 +1,11 @@
--- Each call of a reader has one reply and one content of every lent row, refused calls too. Assumes nothing.
+-- Each call of a reader has one reply and one content of every lent row, refused calls too.
 use mathlib.Core.Path.{_≡_, refl, sym, ap, _∙_}
 use mathlib.Core.List.{List, [], _∷_}
 use Prim.Native.Nat.{ℕ}
 use lib.IntN.{ℤ}
 use lib.ListN.{getD}
-use Rattle.rules.specs.Paper.{Reply, refusal-injective}
+use Rattle.rules.specs.Paper.{Reply}
+use Rattle.rules.proofs.PaperLaws.{refusal-injective}
 use Rattle.dimacs.specs.Reading.{grReply, coReply}
 use Rattle.dimacs.specs.Promise.{GrPromise, CoPromise}
 use Rattle.dimacs.specs.declared.GrReply.{GrReply}

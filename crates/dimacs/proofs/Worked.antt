@@ -1,4 +1,4 @@
--- The worked files of the paper are read with exactly their rows, and its malformed lines refused. Assumes nothing.
+-- The worked files of the paper are read with exactly their rows, and its malformed lines refused.
 use mathlib.Core.Path.{_≡_, refl}
 use mathlib.Core.List.{List, [], _∷_, _++_}
 use mathlib.Core.Bool.{true, _&&_}
@@ -12,7 +12,7 @@ use Rattle.rules.specs.declared.Refusal.the-variants.{NoForm, BeyondLimits, Cou
 use Rattle.scan.specs.Ascii.{bytes}
 use Rattle.scan.specs.Pieces.{opening, pieces, firstAt, sameBytes}
 use Rattle.scan.specs.Numbers.{valueFrom, naturalOf, plain, negated, integerOf}
-use Rattle.scan.specs.Fields.{takenNatural, takenInteger, taken, onField, matched}
+use Rattle.scan.specs.Fields.{before, takenNatural, takenInteger, taken, onField, matched}
 use Rattle.scan.specs.Line.{lineOf}
 use Rattle.scan.specs.declared.holding.Numbers.{Numbers}
 use Rattle.dimacs.specs.Rules.{naturals, within}
@@ -20,7 +20,8 @@ use Rattle.dimacs.specs.Gr.{grLine, grRules}
 use Rattle.dimacs.specs.Co.{coLine, coRules}
 use Rattle.dimacs.specs.Judgement.{problemJudged, dataJudged, judged, ended}
 use Rattle.dimacs.specs.Texts.{Outcome, read, refused, next, onJudged, readLines, readText}
-use Rattle.dimacs.specs.Rows.{columnOf, axisOf, row}
+use Rattle.dimacs.specs.Rules.{columnOf, axisOf}
+use Rattle.dimacs.specs.Rows.{row}
 use Rattle.dimacs.specs.Reading.{readGr, grSays, readCo, coSays}
 use Rattle.dimacs.specs.declared.format.Format.the-variants.{Graph, Coordinates}
 use Rattle.dimacs.specs.declared.rows.Column.the-variants.{First, Second, Third}
@@ -41,19 +42,19 @@ abbrev co : List ℕ → Outcome
 co line = readText (Coordinates 2) (bytes "p aux sp co 2\n" ++ line)
 
 abbrev located : ℕ → ℤ → ℤ → Numbers
-located node x y = record { first = 0; second = 0; third = node; x = x; y = y }
+located node x y = record { first = node; second = 0; third = 0; x = x; y = y }
 
 pub worked-texts :
-    (readText Graph netGr ≡ read (naturals 0 4 6) (naturals 1 2 3 ∷ naturals 2 3 2 ∷ naturals 1 3 5 ∷ naturals 3 4 1 ∷ naturals 1 4 9 ∷ naturals 4 1 4 ∷ []))
+    (readText Graph netGr ≡ read (naturals 4 6 0) (naturals 1 2 3 ∷ naturals 2 3 2 ∷ naturals 1 3 5 ∷ naturals 3 4 1 ∷ naturals 1 4 9 ∷ naturals 4 1 4 ∷ []))
     × (readText (Coordinates 4) netCo
-    ≡ read (naturals 0 0 4) (located 1 (pos 0) (pos 0) ∷ located 2 (pos 10) (pos 0) ∷ located 3 (pos 10) (pos 5) ∷ located 4 (negsuc 4) (pos 20) ∷ []))
+    ≡ read (naturals 4 0 0) (located 1 (pos 0) (pos 0) ∷ located 2 (pos 10) (pos 0) ∷ located 3 (pos 10) (pos 5) ∷ located 4 (negsuc 4) (pos 20) ∷ []))
     × (gr (bytes "a 1 2 -3") ≡ refused (NoForm 2))
     × (gr (bytes "a 1 2 1000001") ≡ refused (BeyondLimits 2))
     × (co (bytes "v 0 1 1") ≡ refused (BeyondLimits 2))
     × (co (bytes "v 1 07 1") ≡ refused (NoForm 2))
     × (readText Graph [] ≡ refused (CountsDisagree 1))
     × (readText (Coordinates 2) [] ≡ refused (CountsDisagree 1))
-unfolding netGr netCo bytes opening pieces firstAt sameBytes valueFrom naturalOf plain negated integerOf takenNatural takenInteger taken onField matched lineOf
+unfolding netGr netCo bytes opening pieces firstAt sameBytes valueFrom naturalOf plain negated integerOf before takenNatural takenInteger taken onField matched lineOf
     within grLine grRules coLine coRules problemJudged dataJudged judged ended next onJudged readLines readText
 worked-texts = (refl, refl, refl, refl, refl, refl, refl, refl)
 

@@ -1,4 +1,4 @@
--- What holds of the rows after an accepted text, place by place (a row's places are counted from 0). Assumes nothing: these are definitions.
+-- What holds of the rows after an accepted text, place by place (a row's places are counted from 0).
 use Prim.Native.Nat.{ℕ, _≤_, _<_}
 use mathlib.Core.List.{List}
 use lib.IntN.{ℤ, pos}

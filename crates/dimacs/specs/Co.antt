@@ -1,4 +1,4 @@
--- The coordinate format: the forms of a line, and its limits. Assumes nothing: these are definitions.
+-- The coordinate format: the forms of a line, and its limits.
 use Prim.Native.Nat.{ℕ}
 use mathlib.Core.List.{List}
 use mathlib.Core.Bool.{true}
@@ -7,22 +7,24 @@ use Rattle.scan.specs.Ascii.{bytes}
 use Rattle.scan.specs.Line.{lineOf}
 use Rattle.scan.specs.declared.line.Line.{Line}
 use Rattle.dimacs.specs.Rules.{naturals}
+use Rattle.dimacs.specs.declared.rows.Column.the-variants.{First}
 use Rattle.dimacs.specs.declared.format.Rules.{Rules}
 
 unfoldable pub coLine : List ℕ → Line
 coLine s = lineOf (bytes "p aux sp co N") (bytes "v ID X Y") s
 
--- for a graph of n nodes. `p aux sp co N`: N, its third number, from 1 to 512, and equal to n.
--- `v ID X Y`: ID, its third number without sign, from 1 to n, X and Y from -1,000,000 to 1,000,000; each node once.
+-- for a graph of n nodes. `p aux sp co N`: N from 1 to 512, and equal to n; it counts the node lines.
+-- `v ID X Y`: ID from 1 to n, X and Y from -1,000,000 to 1,000,000; each node once.
 unfoldable pub coRules : ℕ → Rules
 coRules n =
     record {
-      problem = record { least = naturals 0 0 1; most = naturals 0 0 mostNodes };
+      problem = record { least = naturals 1 0 0; most = naturals mostNodes 0 0 };
+      count = First;
       fewest = n;
       most = n;
       entries = record {
-        least = record { first = 0; second = 0; third = 1; x = leastCoordinate; y = leastCoordinate };
-        most = record { first = 0; second = 0; third = n; x = mostCoordinate; y = mostCoordinate };
+        least = record { first = 1; second = 0; third = 0; x = leastCoordinate; y = leastCoordinate };
+        most = record { first = n; second = 0; third = 0; x = mostCoordinate; y = mostCoordinate };
       };
       once = true;
     }

@@ -1,9 +1,11 @@
--- What holds of every format's rules, as the proofs need it. No public statement cites this. Assumes nothing: these are definitions.
+-- What holds of every format's rules, as the proofs need it. No public statement cites this.
 use Prim.Native.Nat.{_≤_, _<_}
 use mathlib.Core.Path.{_≡_}
 use mathlib.Core.Bool.{true}
 use lib.IntN.{ℤ, pos, negsuc}
 use Rattle.scan.specs.declared.holding.Numbers.{Numbers}
+use Rattle.dimacs.specs.Rules.{columnOf}
+use Rattle.dimacs.specs.declared.rows.Column.{Column}
 use Rattle.dimacs.specs.declared.format.Limits.{Limits}
 use Rattle.dimacs.specs.declared.format.Rules.{Rules}
 use Rattle.dimacs.specs.declared.format.Format.{Format}
@@ -28,11 +30,11 @@ pub record ModestLimits (l : Limits) : Type 0 where
 pub record Fair (R : Rules) : Type 0 where
   pub problem : ModestLimits (R .problem)
   pub entries : ModestLimits (R .entries)
-  pub nodes : R .problem .most .second ≤ 512
-  pub count : R .problem .most .third ≤ 2048
-  pub low : R .once ≡ true → 1 ≤ R .entries .least .third
-  pub high : R .once ≡ true → R .entries .most .third ≤ 2048
-  pub all : R .once ≡ true → R .entries .most .third ≤ R .fewest
+  pub nodes : R .problem .most .first ≤ 512
+  pub counts : (c : Column) → columnOf c (R .problem .most) ≤ 2048
+  pub low : R .once ≡ true → 1 ≤ R .entries .least .first
+  pub high : R .once ≡ true → R .entries .most .first ≤ 2048
+  pub all : R .once ≡ true → R .entries .most .first ≤ R .fewest
 
 -- a graph that has at most 512 nodes
 abbrev pub FormatFair : Format → Type 0

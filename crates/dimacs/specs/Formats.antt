@@ -1,4 +1,4 @@
--- The formats. A further one adds its forms and its rules here. Assumes nothing: these are definitions.
+-- The formats. A further one adds its forms and its rules here.
 use Prim.Native.Nat.{ℕ}
 use mathlib.Core.List.{List}
 use Rattle.scan.specs.declared.line.Line.{Line}
@@ -16,5 +16,5 @@ formatLine (Coordinates n) s = coLine s
 
 -- the rules after the problem line
 abbrev pub rulesOf : Format → Numbers → Rules
-rulesOf Graph problem = grRules (problem .second)
+rulesOf Graph problem = grRules (problem .first)
 rulesOf (Coordinates n) problem = coRules n

@@ -1,4 +1,4 @@
--- The judgement of a line, in the paper's order: 3, 4, 5, 7, 6. Assumes nothing: these are definitions.
+-- The judgement of a line, in the paper's order: 3, 4, 5, 7, 6.
 use Prim.Native.Nat.{ℕ, _-_}
 use mathlib.Core.List.{List, [], _∷_}
 use mathlib.Core.Bool.{Bool, false, _&&_, not}
@@ -11,9 +11,13 @@ use Rattle.rules.specs.declared.Judged.the-variants.{Fine, Refused}
 use Rattle.scan.specs.declared.holding.Numbers.{Numbers}
 use Rattle.scan.specs.declared.line.Line.{Line}
 use Rattle.scan.specs.declared.line.Line.the-variants.{Comment, Problem, Data, Faulty}
-use Rattle.dimacs.specs.Rules.{within}
+use Rattle.dimacs.specs.Rules.{columnOf, within}
 use Rattle.dimacs.specs.declared.format.Rules.{Rules}
 use Rattle.dimacs.specs.declared.judge.Head.{Head}
+
+-- how many data lines the problem line announces
+abbrev pub announced : Rules → Numbers → ℕ
+announced R problem = columnOf (R .count) problem
 
 -- a problem line, at line k: a second one is 4, limits are 5, counts that disagree 6
 unfoldable pub problemJudged : Rules → Head → ℕ → Numbers → Judged
@@ -21,7 +25,7 @@ problemJudged R h k ns =
     inTurn (
     passes (not (h .seen)) (OutOfOrder k)
     ∷ passes (within (R .problem) ns) (BeyondLimits k)
-    ∷ passes (leb (R .fewest) (ns .third) && leb (ns .third) (R .most)) (CountsDisagree k)
+    ∷ passes (leb (R .fewest) (announced R ns) && leb (announced R ns) (R .most)) (CountsDisagree k)
     ∷ []
     )
 
@@ -35,8 +39,8 @@ dataJudged R h taken k ns =
     inTurn (
     passes (h .seen) (OutOfOrder k)
     ∷ passes (within (R .entries) ns) (BeyondLimits k)
-    ∷ passes (not (again R taken (ns .third))) (NodeAgain k)
-    ∷ passes (ltb (h .count) (h .problem .third)) (CountsDisagree k)
+    ∷ passes (not (again R taken (ns .first))) (NodeAgain k)
+    ∷ passes (ltb (h .count) (announced R (h .problem))) (CountsDisagree k)
     ∷ []
     )
 
@@ -48,5 +52,5 @@ judged R h taken k (Data ns) = dataJudged R h taken k ns
 judged R h taken k (Faulty f) = Refused (NoForm k)
 
 -- the end, where k is the number of lines plus one: 6 where `p` or data are lacking
-unfoldable pub ended : Head → ℕ → Judged
-ended h k = passes (h .seen && eqb (h .count) (h .problem .third)) (CountsDisagree k)
+unfoldable pub ended : Rules → Head → ℕ → Judged
+ended R h k = passes (h .seen && eqb (h .count) (announced R (h .problem))) (CountsDisagree k)

@@ -1,9 +1,10 @@
--- What the readers promise: the paper's reply, and the contents of each lent row as it is left. Assumes nothing: these are definitions.
+-- What the readers promise: the paper's reply, and the contents of each lent row as it is left.
 use Prim.Native.Nat.{ℕ}
 use mathlib.Core.Path.{_≡_}
 use mathlib.Core.List.{List}
 use lib.IntN.{ℤ}
-use Rattle.dimacs.specs.Rows.{columnOf, axisOf, row}
+use Rattle.dimacs.specs.Rules.{columnOf, axisOf}
+use Rattle.dimacs.specs.Rows.{row}
 use Rattle.dimacs.specs.Reading.{grReply, coReply, readGr, grSays, readCo, coSays}
 use Rattle.dimacs.specs.declared.GrReply.{GrReply}
 use Rattle.dimacs.specs.declared.CoReply.{CoReply}

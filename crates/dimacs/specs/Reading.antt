@@ -1,4 +1,4 @@
--- The readers: what is judged before the first line, the text, and what the paper is told. Assumes nothing: these are definitions.
+-- The readers: what is judged before the first line, the text, and what the paper is told.
 use Prim.Native.Nat.{ℕ}
 use mathlib.Core.List.{List, [], _∷_}
 use mathlib.Core.Bool.{_&&_}
@@ -16,7 +16,7 @@ use Rattle.dimacs.specs.declared.GrReply.the-variants.{Read as GrRead, R
 use Rattle.dimacs.specs.declared.CoReply.{CoReply}
 use Rattle.dimacs.specs.declared.CoReply.the-variants.{Read as CoRead, Refused as CoRefused}
 
--- ---- the paper's reply of each answer
+-- The paper's reply of each answer.
 
 abbrev pub grReply : GrReply → Reply
 grReply (GrRead n m) = accepted (n ∷ m ∷ [])
@@ -26,7 +26,7 @@ abbrev pub coReply : CoReply → Reply
 coReply CoRead = accepted []
 coReply (CoRefused r) = refusal r
 
--- ---- .gr: 1, 2, then the lines
+-- .gr: 1, 2, then the lines.
 
 unfoldable pub readGr : List ℕ → List ℕ → List ℕ → List ℕ → Outcome
 readGr text tails heads weights =
@@ -40,10 +40,10 @@ readGr text tails heads weights =
 
 -- n and m, or the refusal
 unfoldable pub grSays : Outcome → Reply
-grSays (read problem lines) = accepted (problem .second ∷ problem .third ∷ [])
+grSays (read problem lines) = accepted (problem .first ∷ problem .second ∷ [])
 grSays (refused r) = refusal r
 
--- ---- .co: 1, 2, 5 for the given n, then the lines
+-- .co: 1, 2, 5 for the given n, then the lines.
 
 unfoldable pub readCo : List ℕ → ℕ → List ℤ → List ℤ → Outcome
 readCo text n x y =

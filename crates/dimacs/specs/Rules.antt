@@ -1,11 +1,24 @@
--- The limits of the numbers on a line. Assumes nothing: these are definitions.
+-- Which number of a line, and the limits of the numbers on it.
 use Prim.Native.Nat.{ℕ}
 use mathlib.Core.Bool.{Bool, _&&_}
 use lib.Dec.{leb}
-use lib.IntN.{pos}
+use lib.IntN.{ℤ, pos}
 use lib.Signed.{leZ}
 use Rattle.scan.specs.declared.holding.Numbers.{Numbers}
+use Rattle.dimacs.specs.declared.rows.Column.{Column}
+use Rattle.dimacs.specs.declared.rows.Column.the-variants.{First, Second, Third}
+use Rattle.dimacs.specs.declared.rows.Axis.{Axis}
+use Rattle.dimacs.specs.declared.rows.Axis.the-variants.{X, Y}
 use Rattle.dimacs.specs.declared.format.Limits.{Limits}
+
+abbrev pub columnOf : Column → Numbers → ℕ
+columnOf First ns = ns .first
+columnOf Second ns = ns .second
+columnOf Third ns = ns .third
+
+abbrev pub axisOf : Axis → Numbers → ℤ
+axisOf X ns = ns .x
+axisOf Y ns = ns .y
 
 -- numbers without sign
 abbrev pub naturals : ℕ → ℕ → ℕ → Numbers

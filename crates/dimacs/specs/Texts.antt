@@ -1,4 +1,4 @@
--- A whole text: its lines are judged from the first, and the first refusal decides. Assumes nothing: these are definitions.
+-- A whole text: its lines are judged from the first, and the first refusal decides.
 use Prim.Native.Nat.{ℕ, _+_, _-_}
 use mathlib.Core.List.{List, [], _∷_}
 use mathlib.Core.Bool.{Bool, true, false, cond}
@@ -12,7 +12,7 @@ use Rattle.scan.specs.declared.holding.Numbers.{Numbers}
 use Rattle.scan.specs.declared.line.Line.{Line}
 use Rattle.scan.specs.declared.line.Line.the-variants.{Comment, Problem, Data, Faulty}
 use Rattle.dimacs.specs.Formats.{formatLine, rulesOf}
-use Rattle.dimacs.specs.Judgement.{judged, ended}
+use Rattle.dimacs.specs.Judgement.{announced, judged, ended}
 use Rattle.dimacs.specs.declared.format.Format.{Format}
 use Rattle.dimacs.specs.declared.format.Rules.{Rules}
 use Rattle.dimacs.specs.declared.judge.Head.{Head}
@@ -34,7 +34,7 @@ start = record { head = record { seen = false; problem = none; count = 0 }; take
 
 -- the place of a data line: its node's, or the next one
 abbrev pub place : Rules → Head → Numbers → ℕ
-place R h ns = cond (R .once) (ns .third - 1) (h .count)
+place R h ns = cond (R .once) (ns .first - 1) (h .count)
 
 -- what a line that is fine adds
 unfoldable pub next : Rules → State → Line → State
@@ -55,7 +55,9 @@ onJudged (Refused r) o = refused r
 
 -- the lines ls, of which the first is line k, from the state s
 unfoldable pub readLines : Format → List (List ℕ) → ℕ → State → Outcome
-readLines F [] k s = onJudged (ended (s .head) k) (read (s .head .problem) (take (s .head .problem .third) (s .lines)))
+readLines F [] k s =
+    let R = rulesOf F (s .head .problem) in
+    onJudged (ended R (s .head) k) (read (s .head .problem) (take (announced R (s .head .problem)) (s .lines)))
 readLines F (l ∷ ls) k s =
     let R = rulesOf F (s .head .problem) in
     let line = formatLine F l in
@@ -64,7 +66,6 @@ readLines F (l ∷ ls) k s =
 unfoldable pub readText : Format → List ℕ → Outcome
 readText F text = readLines F (linesOf text) 1 start
 
--- ---- what the reading code holds
-
-abbrev pub outcomeOf : Sheet → Outcome
-outcomeOf s = onJudged (s .judged) (read (s .problem) (take (s .problem .third) (s .lines)))
+-- what a sheet of the format says
+abbrev pub outcomeOf : Format → Sheet → Outcome
+outcomeOf F s = onJudged (s .judged) (read (s .problem) (take (announced (rulesOf F (s .problem)) (s .problem)) (s .lines)))

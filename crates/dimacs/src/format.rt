@@ -1,4 +1,5 @@
 // What each format says of its lines: their forms, and the limits of the numbers on them.
+use crate::rows::Column;
 use scan::holding::Numbers;
 use scan::line::Line;
 use scan::line::read_line;
@@ -25,7 +26,8 @@ pub struct Limits {
 pub struct Rules {
     // the limits on the problem line
     pub problem: Limits,
-    // the fewest and the most data lines that the problem line may announce
+    // which number on it counts the data lines, and the fewest and the most of them
+    pub count: Column,
     pub fewest: u32,
     pub most: u32,
     // the limits on a data line
@@ -73,9 +75,10 @@ fn rules_gr(n: u32) -> Rules
 {
     Rules {
         problem: Limits {
-            least: naturals_of(0, 1, 0),
-            most: naturals_of(0, rules::NODES, rules::ARCS),
+            least: naturals_of(1, 0, 0),
+            most: naturals_of(rules::NODES, rules::ARCS, 0),
         },
+        count: Column::Second,
         fewest: 0,
         most: rules::ARCS,
         entries: Limits {
@@ -92,23 +95,24 @@ fn rules_co(n: u32) -> Rules
 {
     Rules {
         problem: Limits {
-            least: naturals_of(0, 0, 1),
-            most: naturals_of(0, 0, rules::NODES),
+            least: naturals_of(1, 0, 0),
+            most: naturals_of(rules::NODES, 0, 0),
         },
+        count: Column::First,
         fewest: n,
         most: n,
         entries: Limits {
             least: Numbers {
-                first: 0,
+                first: 1,
                 second: 0,
-                third: 1,
+                third: 0,
                 x: rules::LEAST_COORDINATE,
                 y: rules::LEAST_COORDINATE,
             },
             most: Numbers {
-                first: 0,
+                first: n,
                 second: 0,
-                third: n,
+                third: 0,
                 x: rules::MOST_COORDINATE,
                 y: rules::MOST_COORDINATE,
             },
@@ -122,7 +126,7 @@ pub fn rules_for(format: Format, problem: Numbers) -> Rules
     ensures { λ r. ⌜ r ≡ rulesOf format problem ⌝ }
 {
     match format {
-        Format::Graph => rules_gr(problem.second),
+        Format::Graph => rules_gr(problem.first),
         Format::Coordinates(n) => rules_co(n),
     }
 }

@@ -1,6 +1,7 @@
 // The judgement of a line, in the paper's order: 3, 4, 5, 7, 6.
 use crate::format::Rules;
 use crate::format::are_within;
+use crate::rows::natural;
 use rules::Judged;
 use rules::Refusal;
 use scan::holding::Numbers;
@@ -8,7 +9,7 @@ use scan::line::Line;
 ghost use mathlib.Core.Path.{_≡_};
 ghost use mathlib.Core.Bool.{true};
 ghost use Prim.Native.Nat.{_≤_};
-ghost use Rattle.dimacs.specs.Judgement.{problemJudged, again, dataJudged, judged, ended};
+ghost use Rattle.dimacs.specs.Judgement.{announced, problemJudged, again, dataJudged, judged, ended};
 ghost use Rattle.dimacs.specs.Fair.{Fair};
 
 // What was read of a text so far: its problem line, once it was seen, and how many data lines.
@@ -16,6 +17,14 @@ pub struct Head {
     pub seen: bool,
     pub problem: Numbers,
     pub count: u32,
+}
+
+// How many data lines the problem line announces.
+fn count_announced(rules: Rules, problem: Numbers) -> u32
+    ensures { λ r. ⌜ r ≡ announced rules problem ⌝ }
+{
+    let column = rules.count;
+    natural(problem, column)
 }
 
 // A problem line.
@@ -28,7 +37,8 @@ fn judge_problem(rules: Rules, head: Head, ns: Numbers, line: u32) -> Judged
     if !are_within(rules.problem, ns) {
         return Judged::Refused(Refusal::BeyondLimits { line });
     }
-    if (rules.fewest <= ns.third) & (ns.third <= rules.most) {
+    let count = count_announced(rules, ns);
+    if (rules.fewest <= count) & (count <= rules.most) {
         return Judged::Fine;
     }
     Judged::Refused(Refusal::CountsDisagree { line })
@@ -57,10 +67,10 @@ fn judge_data(rules: Rules, head: Head, taken: &[bool; 2048], ns: Numbers, line:
     if !are_within(rules.entries, ns) {
         return Judged::Refused(Refusal::BeyondLimits { line });
     }
-    if is_again(rules, taken, ns.third) {
+    if is_again(rules, taken, ns.first) {
         return Judged::Refused(Refusal::NodeAgain { line });
     }
-    if head.count < head.problem.third {
+    if head.count < count_announced(rules, head.problem) {
         return Judged::Fine;
     }
     Judged::Refused(Refusal::CountsDisagree { line })
@@ -80,10 +90,10 @@ pub fn judge(rules: Rules, head: Head, taken: &[bool; 2048], l: Line, line: u32)
 }
 
 // The end of a text; line is the number of lines plus one.
-pub fn judge_end(head: Head, line: u32) -> Judged
-    ensures { λ r. ⌜ r ≡ ended head line ⌝ }
+pub fn judge_end(rules: Rules, head: Head, line: u32) -> Judged
+    ensures { λ r. ⌜ r ≡ ended rules head line ⌝ }
 {
-    if head.seen & (head.count == head.problem.third) {
+    if head.seen & (head.count == count_announced(rules, head.problem)) {
         return Judged::Fine;
     }
     Judged::Refused(Refusal::CountsDisagree { line })

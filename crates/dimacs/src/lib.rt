@@ -1,8 +1,8 @@
 // The text formats of the 9th DIMACS Implementation Challenge: a text becomes rows, or gets its numbered refusal.
-pub mod format;
-pub mod judge;
-pub mod rows;
-pub mod sheet;
+mod format;
+mod judge;
+mod rows;
+mod sheet;
 
 use format::Format;
 use rows::Axis;
@@ -41,8 +41,8 @@ pub fn read_gr(text: &[u8], tails: &mut [u32], heads: &mut [u32], weights: &mut 
     let judged = sheet.judged;
     let Judged::Refused(refusal) = judged else {
         let lines = sheet.lines;
-        let n = sheet.problem.second;
-        let m = sheet.problem.third;
+        let n = sheet.problem.first;
+        let m = sheet.problem.second;
         put_naturals(lines, Column::First, m as usize, tails);
         put_naturals(lines, Column::Second, m as usize, heads);
         put_naturals(lines, Column::Third, m as usize, weights);
@@ -68,7 +68,7 @@ pub fn read_co(text: &[u8], n: u32, x: &mut [i32], y: &mut [i32]) -> CoReply
     let judged = sheet.judged;
     let Judged::Refused(refusal) = judged else {
         let lines = sheet.lines;
-        let m = sheet.problem.third;
+        let m = sheet.problem.first;
         put_integers(lines, Axis::X, m as usize, x);
         put_integers(lines, Axis::Y, m as usize, y);
         return CoReply::Read;

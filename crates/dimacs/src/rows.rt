@@ -1,10 +1,10 @@
-// Numbers of data lines, put into rows that are lent.
+// Which number of a line; numbers of data lines, put into rows that are lent.
 use scan::holding::Numbers;
 ghost use mathlib.Core.Path.{_≡_};
 ghost use mathlib.Core.List.{_++_, map};
 ghost use Prim.Native.Nat.{_≤_};
 ghost use lib.ListN.{length, take, drop};
-ghost use Rattle.dimacs.specs.Rows.{columnOf, axisOf};
+ghost use Rattle.dimacs.specs.Rules.{columnOf, axisOf};
 
 // Which number without sign of a line.
 pub enum Column {
@@ -19,7 +19,8 @@ pub enum Axis {
     Y,
 }
 
-fn natural(ns: Numbers, column: Column) -> u32
+// The number without sign.
+pub fn natural(ns: Numbers, column: Column) -> u32
     ensures { λ r. ⌜ r ≡ columnOf column ns ⌝ }
 {
     match column {
@@ -29,6 +30,7 @@ fn natural(ns: Numbers, column: Column) -> u32
     }
 }
 
+// The number that may have a minus.
 fn integer(ns: Numbers, axis: Axis) -> i32
     ensures { λ r. ⌜ r ≡ axisOf axis ns ⌝ }
 {

@@ -29,11 +29,11 @@ pub struct Sheet {
 
 // The place of a data line that is fine.
 fn place_of(rules: Rules, head: Head, ns: Numbers) -> usize
-    requires { ⌜ (rules .once ≡ true → 1 ≤ ns .third) ⌝ }
+    requires { ⌜ (rules .once ≡ true → 1 ≤ ns .first) ⌝ }
     ensures { λ r. ⌜ r ≡ place rules head ns ⌝ }
 {
     if rules.once {
-        return (ns.third - 1) as usize;
+        return (ns.first - 1) as usize;
     }
     head.count as usize
 }
@@ -41,7 +41,7 @@ fn place_of(rules: Rules, head: Head, ns: Numbers) -> usize
 // Reads the lines of a text, one after the other.
 pub fn read_sheet(text: &[u8], format: Format) -> Sheet
     requires { ⌜ (length (now text) ≤ 65536) × FormatFair format ⌝ }
-    ensures { λ r. ⌜ outcomeOf r ≡ readText format (now (text .entry)) ⌝ }
+    ensures { λ r. ⌜ outcomeOf format r ≡ readText format (now (text .entry)) ⌝ }
 {
     let mut lines = [no_numbers(); 2048];
     let mut taken = [false; 2048];
@@ -96,7 +96,7 @@ pub fn read_sheet(text: &[u8], format: Format) -> Sheet
     }
     let problem = head.problem;
     Sheet {
-        judged: judge_end(head, line),
+        judged: judge_end(rules_for(format, problem), head, line),
         problem,
         lines,
     }

@@ -1,4 +1,4 @@
--- A box grown by places is the smallest that holds what it held and those. Assumes nothing.
+-- A box grown by places is the smallest that holds what it held and those.
 use Prim.Native.Nat.{ℕ, zero, suc, _≤_}
 use mathlib.Core.Path.{_≡_}
 use mathlib.Core.Logic.{_⊎_, inl, inr, ⊎-elim}
@@ -10,7 +10,7 @@ use lib.IntN.{ℤ}
 use Rattle.geometry.specs.Box.{Box, Upright, Smallest}
 use Rattle.geometry.specs.Row.{coordinate}
 use Rattle.geometry.proofs.SmallestLaws.{IsPlace, smallest-same, grown-smallest, grown-upright}
-use Rattle.settling.specs.Choice.{cond-by}
+use Rattle.settling.proofs.Choice.{cond-by}
 use Rattle.drawing.specs.Grown.{grownIf, grownBy}
 
 -- (px, py) is the place of a node of 1..n to which the arc leads

@@ -1,4 +1,5 @@
 pub mod DrawnLaws
 pub mod Steps
+pub mod HeadLaws
 pub mod GrownLaws
 pub mod MissedLaws

@@ -1,16 +1,17 @@
--- The first node that a box misses, found node by node. Assumes nothing.
+-- The first node that a box misses, found node by node.
 use Prim.Native.Nat.{ℕ, _+_, _-_, _≤_, _<_}
-use mathlib.Core.Path.{_≡_, sym, ap, subst, _∙_}
+use mathlib.Core.Path.{_≡_, refl, ap, _∙_}
 use mathlib.Core.Bool.{Bool, true, false}
 use mathlib.Core.List.{List}
 use native.Mathlib.Omega.{arith}
 use native.Mathlib.Decide.{ℕ-discrete}
 use lib.IntN.{ℤ}
 use Rattle.walks.specs.Rows.{Rows}
-use Rattle.geometry.specs.Row.{number}
-use Rattle.drawing.specs.declared.compare.Missed.the-variants.{Nothing, At}
-use Rattle.drawing.specs.Leads.{leadsAt, lengthsTo, leadsTo}
-use Rattle.drawing.specs.Missed.{missB, missesB, Clear, FirstOf}
+use Rattle.geometry.specs.Row.{number, coordinate}
+use Rattle.drawing.specs.declared.compare.Miss.the-variants.{Nowhere, First}
+use Rattle.drawing.specs.Drawn.{markRow, markOf, Drawn}
+use Rattle.drawing.specs.Leads.{leadsTo, Marked}
+use Rattle.drawing.specs.Missed.{missesPlace, missesNode, BeforeFirst, IsFirst}
 
 -- of the nodes 1..t, none passes the test with an arc of 1..below; if below < m, `node` is the lowest that passes it with the arc below + 1
 pub record Lower (test : ℕ → ℕ → Bool) (m t below node : ℕ) : Type 0 where
@@ -32,7 +33,7 @@ module _ {test : ℕ → ℕ → Bool} (m : ℕ) where
     first = λ l. absurd (omega arith);
   }
 
-module _ {test : ℕ → ℕ → Bool} {m t below node e : ℕ} (h : Lower test m t below node) (k : Clear (test (t + 1)) below e) where
+module _ {test : ℕ → ℕ → Bool} {m t below node e : ℕ} (h : Lower test m t below node) (k : BeforeFirst (test (t + 1)) below e) where
   more : (r : ℕ) → r ≤ below → r ≤ e → (j i : ℕ) → 1 ≤ j → j ≤ t + 1 → 1 ≤ i → i ≤ r → test j i ≡ false
   more r u v j i low high low′ high′ = elim (ℕ-discrete j (t + 1)) [
     | yes same ↦ ap (λ (x : ℕ). test x i) same ∙ k .fails i low′ (omega arith)
@@ -62,7 +63,7 @@ module _ {test : ℕ → ℕ → Bool} {m t below node e : ℕ} (h : Lower test 
 
 -- when all nodes are seen
 module _ {test : ℕ → ℕ → Bool} {n m below node : ℕ} (h : Lower test m n below node) where
-  pub lower-found : below < m → FirstOf test n m (At (below + 1) node)
+  pub lower-found : below < m → IsFirst test n m (First (below + 1) node)
   lower-found l = record {
     arc-low = omega arith;
     arc-high = omega arith;
@@ -73,14 +74,20 @@ module _ {test : ℕ → ℕ → Bool} {n m below node : ℕ} (h : Lower test m 
     node-first = λ j a b. h .first l j a b;
   }
 
-  pub lower-nothing : m ≤ below → FirstOf test n m Nothing
-  lower-nothing l = λ t e a b c d. h .fails t e a b c (omega arith)
+  pub lower-nowhere : m ≤ below → IsFirst test n m Nowhere
+  lower-nowhere l = λ t e a b c d. h .fails t e a b c (omega arith)
 
--- the test of the node at place t, which is node t + 1
-pub clear-node : (R : Rows) (n m : ℕ) (boxes x y : List ℤ) (t : ℕ) {lengths : List ℕ} {px py : ℤ} {k e : ℕ}
-    → lengths ≡ lengthsTo R n m (t + 1) → px ≡ number x t → py ≡ number y t
-    → Clear (missB (leadsAt R lengths) boxes px py) k e → Clear (missesB R n m boxes x y (t + 1)) k e
-unfolding missesB
-clear-node R n m boxes x y t {k = k} {e = e} told ex ey h =
-    let same : t + 1 - 1 ≡ t = omega arith in
-    subst (λ (v : ℕ). Clear (missB (leadsTo R n m (t + 1)) boxes (number x v) (number y v)) k e) (sym same) (rw (told, ex, ey) at h)
+-- by the marks of the arcs that lead to the node at place t, which is node t + 1
+pub before-node : (R : Rows) (n m : ℕ) (boxes x y : List ℤ) (t : ℕ) {unmarked marked : List Bool} {px py : ℤ} {k e : ℕ}
+    → Drawn markRow k (Marked (leadsTo R n m (t + 1))) unmarked marked → px ≡ number x t → py ≡ number y t
+    → BeforeFirst (missesPlace (markOf marked) boxes px py) k e → BeforeFirst (missesNode R n m boxes x y (t + 1)) k e
+unfolding missesNode
+before-node R n m boxes x y t {marked = marked} {px = px} {py = py} {k = k} {e = e} marks ex ey h = record {
+  most = h .most;
+  fails = λ i low high. same i low (omega (arith, h .most)) ∙ h .fails i low high;
+  passes = λ l. same (e + 1) (omega arith) (omega arith) ∙ h .passes l;
+}
+  where
+    same : (i : ℕ) → 1 ≤ i → i ≤ k
+        → missesPlace (leadsTo R n m (t + 1)) boxes (coordinate x (t + 1)) (coordinate y (t + 1)) i ≡ missesPlace (markOf marked) boxes px py i
+    same i low high = let back : t + 1 - 1 ≡ t = omega arith in rw (marks .entries i low high, ex, ey, back) refl

@@ -1,24 +1,12 @@
--- Boxes started at their heads, and grown by places. Assumes nothing.
-use Prim.Native.Nat.{ℕ, zero, suc, _≤_}
+-- Boxes grown by places.
+use Prim.Native.Nat.{ℕ, zero, suc}
 use mathlib.Core.Path.{_≡_}
 use mathlib.Core.Bool.{Bool, cond}
 use mathlib.Core.List.{List}
 use lib.IntN.{ℤ}
-use lib.ListN.{length}
-use Rattle.walks.specs.Rows.{at}
 use Rattle.geometry.specs.Box.{Box}
-use Rattle.geometry.specs.Hull.{placeBox, grown}
+use Rattle.geometry.specs.Hull.{grown}
 use Rattle.geometry.specs.Row.{coordinate}
-
--- the ends of the arcs 1..m, in a row, are nodes of 1..n
-pub record Nodes (n m : ℕ) (row : List ℕ) : Type 0 where
-  pub long : m ≤ length row
-  pub low : (e : ℕ) → 1 ≤ e → e ≤ m → 1 ≤ at row e
-  pub high : (e : ℕ) → 1 ≤ e → e ≤ m → at row e ≤ n
-
--- the box of arc e's head
-abbrev pub headBox : List ℕ → List ℤ → List ℤ → ℕ → Box
-headBox heads x y e = placeBox (coordinate x (at heads e)) (coordinate y (at heads e))
 
 -- a box grown by a place, if the arc leads there
 unfoldable pub grownIf : Bool → ℤ → ℤ → Box → Box
@@ -31,12 +19,6 @@ module _ (leads : ℕ → Bool) (x y : List ℤ) where
   grownBy (suc t) b = grownIf (leads (suc t)) (coordinate x (suc t)) (coordinate y (suc t)) (grownBy t b)
 
 -- ---- What becomes of arc e's box b
-
-abbrev pub Started : List ℕ → List ℤ → List ℤ → ℕ → Box → Box → Type 0
-Started heads x y e b c = c ≡ headBox heads x y e
-
-abbrev pub GrownHead : List ℕ → List ℤ → List ℤ → ℕ → Box → Box → Type 0
-GrownHead heads x y e b c = c ≡ grown b (coordinate x (at heads e)) (coordinate y (at heads e))
 
 abbrev pub GrownOnce : (ℕ → Bool) → ℤ → ℤ → ℕ → Box → Box → Type 0
 GrownOnce leads px py e b c = c ≡ grownIf (leads e) px py b

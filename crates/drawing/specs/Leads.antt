@@ -1,5 +1,6 @@
--- S(e) by the lengths to t, which are those of the labels of a search from t in the reverse network. Assumes nothing.
+-- S(e) by the lengths to t, which are those of the labels of a search from t in the reverse network.
 use Prim.Native.Nat.{ℕ}
+use mathlib.Core.Path.{_≡_}
 use mathlib.Core.Bool.{Bool}
 use mathlib.Core.List.{List}
 use Rattle.walks.specs.Rows.{Rows, at}
@@ -20,3 +21,8 @@ lengthsTo R n m t = towardOf R n m t .length
 -- the arc e leads to t
 abbrev pub leadsTo : Rows → ℕ → ℕ → ℕ → ℕ → Bool
 leadsTo R n m t e = leadsAt R (lengthsTo R n m t) e
+
+-- ---- What becomes of arc e's mark
+
+abbrev pub Marked : (ℕ → Bool) → ℕ → Bool → Bool → Type 0
+Marked leads e old new = new ≡ leads e

@@ -1,5 +1,6 @@
--- What is drawn: S(e) by lengths, boxes of a row drawn anew, boxes started and grown, and the first node that a box misses.
-pub mod Leads
+-- What is drawn: rows with an entry for each arc, S(e) by lengths, boxes from their heads and grown, and the first node that a box misses.
 pub mod Drawn
+pub mod Leads
+pub mod Heads
 pub mod Grown
 pub mod Missed

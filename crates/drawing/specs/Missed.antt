@@ -1,4 +1,4 @@
--- The first node that a box misses. Assumes nothing.
+-- The first node that a box misses.
 use Prim.Native.Nat.{ℕ, _+_, _≤_, _<_}
 use mathlib.Core.Path.{_≡_}
 use mathlib.Core.Bool.{Bool, true, false, not, _&&_}
@@ -7,20 +7,20 @@ use lib.IntN.{ℤ}
 use Rattle.walks.specs.Rows.{Rows}
 use Rattle.geometry.specs.Box.{holdsB}
 use Rattle.geometry.specs.Row.{coordinate, boxOf}
-use Rattle.drawing.specs.declared.compare.Missed.{Missed}
-use Rattle.drawing.specs.declared.compare.Missed.the-variants.{Nothing, At}
+use Rattle.drawing.specs.declared.compare.Miss.{Miss}
+use Rattle.drawing.specs.declared.compare.Miss.the-variants.{Nowhere, First}
 use Rattle.drawing.specs.Leads.{leadsTo}
 
 -- arc e leads to the place, and its box does not hold it
-abbrev pub missB : (ℕ → Bool) → List ℤ → ℤ → ℤ → ℕ → Bool
-missB leads boxes px py e = leads e && not (holdsB (boxOf boxes e) px py)
+abbrev pub missesPlace : (ℕ → Bool) → List ℤ → ℤ → ℤ → ℕ → Bool
+missesPlace leads boxes px py e = leads e && not (holdsB (boxOf boxes e) px py)
 
 -- the box of arc e misses the node t of its S(e)
-unfoldable pub missesB : Rows → ℕ → ℕ → List ℤ → List ℤ → List ℤ → ℕ → ℕ → Bool
-missesB R n m boxes x y t = λ e. missB (leadsTo R n m t) boxes (coordinate x t) (coordinate y t) e
+unfoldable pub missesNode : Rows → ℕ → ℕ → List ℤ → List ℤ → List ℤ → ℕ → ℕ → Bool
+missesNode R n m boxes x y t = λ e. missesPlace (leadsTo R n m t) boxes (coordinate x t) (coordinate y t) e
 
--- of the numbers 1..k, r from the first on fail a test
-pub record Clear (test : ℕ → Bool) (k r : ℕ) : Type 0 where
+-- of the numbers 1..k, r stand before the first that passes a test; all k, if none passes
+pub record BeforeFirst (test : ℕ → Bool) (k r : ℕ) : Type 0 where
   pub most : r ≤ k
   pub fails : (i : ℕ) → 1 ≤ i → i ≤ r → test i ≡ false
   pub passes : r < k → test (r + 1) ≡ true
@@ -35,6 +35,7 @@ pub record Lowest (test : ℕ → ℕ → Bool) (n m e t : ℕ) : Type 0 where
   pub arc-first : (j i : ℕ) → 1 ≤ j → j ≤ n → 1 ≤ i → i < e → test j i ≡ false
   pub node-first : (j : ℕ) → 1 ≤ j → j < t → test j e ≡ false
 
-abbrev pub FirstOf : (ℕ → ℕ → Bool) → ℕ → ℕ → Missed → Type 0
-FirstOf test n m Nothing = (t e : ℕ) → 1 ≤ t → t ≤ n → 1 ≤ e → e ≤ m → test t e ≡ false
-FirstOf test n m (At e t) = Lowest test n m e t
+-- the first miss, by a test of a node and an arc
+abbrev pub IsFirst : (ℕ → ℕ → Bool) → ℕ → ℕ → Miss → Type 0
+IsFirst test n m Nowhere = (t e : ℕ) → 1 ≤ t → t ≤ n → 1 ≤ e → e ≤ m → test t e ≡ false
+IsFirst test n m (First e t) = Lowest test n m e t

@@ -2,34 +2,26 @@
 ghost use Prim.Native.Nat.{_*_, _≤_};
 ghost use lib.ListN.{length};
 ghost use Rattle.walks.specs.Rows.{rows, Sound};
-ghost use Rattle.drawing.specs.Leads.{leadsAt};
-ghost use Rattle.drawing.specs.Missed.{missB, missesB, Clear, FirstOf};
-use crate::grow::leads;
+ghost use Rattle.drawing.specs.Drawn.{markOf};
+ghost use Rattle.drawing.specs.Missed.{missesPlace, missesNode, BeforeFirst, IsFirst};
+use crate::mark::mark_toward;
+use frontier::chain::link;
 
-// The lowest arc whose box misses a node of its S(e), and then its lowest such node; or that no box does.
-pub enum Missed {
-    Nothing,
-    At { arc: u32, node: u32 },
+// The lowest arc whose box misses a node of its S(e), and then its lowest such node; or that no box misses any.
+pub enum Miss {
+    Nowhere,
+    First { arc: u32, node: u32 },
 }
 
-// How many of the arcs 1..k, from the first on, have a box that does not miss t, whose place is (px, py), by the lengths to t.
-fn clear(
-    lengths: &[u32; 512],
-    px: i32,
-    py: i32,
-    k: usize,
-    tails: &[u32],
-    heads: &[u32],
-    weights: &[u32],
-    boxes: &[i32],
-) -> usize
-    requires { ⌜ Sound 512 k (rows (now tails) (now heads) (now weights)) × (4 * k ≤ length (now boxes)) ⌝ }
-    ensures { λ r. ⌜ Clear (missB (leadsAt (rows (now (tails .entry)) (now (heads .entry)) (now (weights .entry))) (now (lengths .entry))) (now (boxes .entry)) px py) k r ⌝ }
+// How many of the arcs 1..k stand before the first that is marked and whose box does not hold the place.
+fn before_miss(marked: &[bool; 2048], px: i32, py: i32, k: usize, boxes: &[i32]) -> usize
+    requires { ⌜ (k ≤ 2048) × (4 * k ≤ length (now boxes)) ⌝ }
+    ensures { λ r. ⌜ BeforeFirst (missesPlace (markOf (now (marked .entry))) (now (boxes .entry)) px py) k r ⌝ }
 {
     let mut e: usize = 0;
     while e < k {
         let next = e + 1;
-        if leads(lengths, tails[e], heads[e], weights[e]) {
+        if marked[e] {
             if !geometry::holds(boxes, next, px, py) {
                 return e;
             }
@@ -39,8 +31,8 @@ fn clear(
     k
 }
 
-// The first node that a box misses: one labelling for each node t of 1..n, which looks only at arcs below the lowest found so far.
-pub fn find_missed(
+// The first miss: one labelling for each node t of 1..n, which looks only at arcs below the lowest found so far.
+pub fn find_miss(
     n: usize,
     m: usize,
     tails: &[u32],
@@ -49,16 +41,31 @@ pub fn find_missed(
     x: &[i32],
     y: &[i32],
     boxes: &[i32],
-) -> Missed
+) -> Miss
     requires { ⌜ Sound n m (rows (now tails) (now heads) (now weights)) × (n ≤ length (now x)) × (n ≤ length (now y)) × (4 * m ≤ length (now boxes)) ⌝ }
-    ensures { λ r. ⌜ FirstOf (missesB (rows (now (tails .entry)) (now (heads .entry)) (now (weights .entry))) n m (now (boxes .entry)) (now (x .entry)) (now (y .entry))) n m r ⌝ }
+    ensures { λ r. ⌜ IsFirst (missesNode (rows (now (tails .entry)) (now (heads .entry)) (now (weights .entry))) n m (now (boxes .entry)) (now (x .entry)) (now (y .entry))) n m r ⌝ }
 {
+    let mut first = [m as u32; 512];
+    let mut next = [0u32; 2048];
+    link(m, heads, &mut first, &mut next);
+    let mut marked = [false; 2048];
     let mut below = m;
     let mut node: usize = 0;
     let mut t: usize = 0;
     while t < n {
-        let lengths = crate::lengths_to(t + 1, n, m, tails, heads, weights);
-        let e = clear(&lengths, x[t], y[t], below, tails, heads, weights, boxes);
+        mark_toward(
+            t + 1,
+            below,
+            n,
+            m,
+            tails,
+            heads,
+            weights,
+            &first,
+            &next,
+            &mut marked,
+        );
+        let e = before_miss(&marked, x[t], y[t], below, boxes);
         if e < below {
             below = e;
             node = t + 1;
@@ -66,10 +73,10 @@ pub fn find_missed(
         t += 1;
     }
     if below < m {
-        return Missed::At {
+        return Miss::First {
             arc: (below + 1) as u32,
             node: node as u32,
         };
     }
-    Missed::Nothing
+    Miss::Nowhere
 }

@@ -1,4 +1,1 @@
-pub mod Page
-pub mod Decimal
 pub mod File
-pub mod Refusals

@@ -1,4 +1,4 @@
--- The order on ℤ, where `lib.Signed` stops: it is transitive, antisymmetric and total, and `smaller` and `larger` are its meet and join. Assumes nothing.
+-- The order on ℤ, where `lib.Signed` stops: it is transitive, antisymmetric and total, and `smaller` and `larger` are its meet and join.
 use mathlib.Core.Path.{_≡_, ap}
 use mathlib.Core.Bool.{Bool, true, false, not, cond}
 use Prim.Native.Nat.{_≤_}

@@ -1,16 +1,15 @@
--- Laws of boxes in a row: what a stored box leaves at each place. Assumes nothing.
+-- Laws of boxes in a row: what a stored box leaves at each place.
 use Prim.Native.Nat.{ℕ, _+_, _-_, _*_, _≤_, _<_}
 use mathlib.Core.Path.{_≡_}
 use mathlib.Core.Logic.{_⊎_, inl, inr, ⊎-elim}
-use mathlib.Core.Bool.{Bool, _&&_}
 use mathlib.Core.List.{List}
 use native.Mathlib.Omega.{arith}
 use native.Mathlib.Decide.{decLt}
 use lib.IntN.{ℤ}
 use lib.ListN.{length, set, length-set}
 use lib.Seq.{getD-set-same, getD-set-other}
-use Rattle.geometry.specs.Box.{Box, withinB, wellShapedB}
-use Rattle.geometry.specs.Row.{number, boxFrom, putFrom, boxOf, withBox, goodPlace, goodBox}
+use Rattle.geometry.specs.Box.{Box}
+use Rattle.geometry.specs.Row.{number, boxFrom, putFrom, boxOf, withBox}
 use Rattle.geometry.proofs.SmallestLaws.{same-box}
 
 -- a stored box keeps every other place
@@ -73,11 +72,3 @@ with-other row arc other b low low′ differ =
 -- so is every place past the arc's box
 pub with-past : (row : List ℤ) (arc : ℕ) (b : Box) (i : ℕ) → 1 ≤ arc → 4 * arc ≤ i → number (withBox row arc b) i ≡ number row i
 with-past row arc b i low high = put-kept row (4 * (arc - 1)) b i (inr (omega arith))
-
--- ---- The tests of a node and an arc by their places, counted from 0
-
-pub good-place-next : (x y : List ℤ) (i : ℕ) {t : Bool} → withinB (number x i) && withinB (number y i) ≡ t → goodPlace x y (i + 1) ≡ t
-good-place-next x y i e = let same : i + 1 - 1 ≡ i = omega arith in rw same e
-
-pub good-box-next : (boxes : List ℤ) (i : ℕ) {t : Bool} → wellShapedB (boxFrom boxes (4 * i)) ≡ t → goodBox boxes (i + 1) ≡ t
-good-box-next boxes i e = let same : i + 1 - 1 ≡ i = omega arith in rw same e

@@ -1,5 +1,5 @@
 -- What is read back from the bits of an i32 is the number, from the bound that a read of an element (`.given`), a
--- parameter (`.fits`) or a call's result (`.ok`) hands over. Assumes nothing.
+-- parameter (`.fits`) or a call's result (`.ok`) hands over.
 use Prim.Native.Nat.{_<_, _^_}
 use mathlib.Core.Path.{_≡_}
 use lib.IntN.{ℤ}

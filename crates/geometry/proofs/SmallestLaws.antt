@@ -1,4 +1,4 @@
--- The smallest box is one only, and the hull is the smallest of two. Assumes nothing.
+-- The smallest box is one only, and the hull is the smallest of two.
 use mathlib.Core.Path.{_≡_, refl}
 use mathlib.Core.Logic.{_⊎_, inl, inr, ⊎-elim}
 use lib.IntN.{ℤ}

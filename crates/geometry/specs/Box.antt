@@ -1,4 +1,4 @@
--- Boxes: what a box holds, when it is well shaped, and the smallest box around a set of places. Assumes nothing.
+-- Boxes: what a box holds, when it is well shaped, and the smallest box around a set of places.
 use mathlib.Core.Bool.{Bool, _&&_}
 use lib.IntN.{ℤ}
 use lib.Signed.{_≤ℤ_, leZ}

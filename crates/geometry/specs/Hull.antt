@@ -1,4 +1,4 @@
--- Boxes made of others: that of one place, the hull of two, and a box grown by a place. Assumes nothing.
+-- Boxes made of others: that of one place, the hull of two, and a box grown by a place.
 use mathlib.Core.Bool.{cond}
 use lib.IntN.{ℤ}
 use lib.Signed.{leZ}

@@ -1,11 +1,10 @@
 -- Coordinates and boxes in rows. Nodes and arcs are numbered from 1; boxes are one row of four numbers an arc, in
--- order: left, right, low, high. Assumes nothing.
+-- order: left, right, low, high.
 use Prim.Native.Nat.{ℕ, _+_, _-_, _*_}
-use mathlib.Core.Bool.{Bool, _&&_}
 use mathlib.Core.List.{List}
 use lib.IntN.{ℤ, pos}
 use lib.ListN.{getD, set}
-use Rattle.geometry.specs.Box.{Box, withinB, wellShapedB}
+use Rattle.geometry.specs.Box.{Box}
 
 -- what stands at a place of a row, counted from 0
 abbrev pub number : List ℤ → ℕ → ℤ
@@ -28,12 +27,3 @@ boxOf row arc = boxFrom row (4 * (arc - 1))
 
 abbrev pub withBox : List ℤ → ℕ → Box → List ℤ
 withBox row arc b = putFrom row (4 * (arc - 1)) b
-
--- ---- Tests: refusals 9 and 10
-
--- both coordinates of a node are within limits
-abbrev pub goodPlace : List ℤ → List ℤ → ℕ → Bool
-goodPlace x y node = withinB (coordinate x node) && withinB (coordinate y node)
-
-abbrev pub goodBox : List ℤ → ℕ → Bool
-goodBox boxes arc = wellShapedB (boxOf boxes arc)

@@ -1,4 +1,4 @@
--- Laws of lines that ask for `lend`. Assumes nothing.
+-- Laws of lines that ask for `lend`.
 use Prim.Native.Nat.{ℕ, _≤_}
 use mathlib.Core.Path.{_≡_, refl, ap, subst, _∙_}
 use mathlib.Core.List.{List, [], _∷_}
@@ -6,7 +6,8 @@ use mathlib.Core.Bool.{Bool, true, false, cond}
 use lib.Dec.{leb, leb→le}
 use lib.ListN.{length, drop}
 use lib.Seq.{drop-drop}
-use Rattle.commands.specs.Names.{verbOf, takesWords, rowOf, placesOf, signedRow}
+use Rattle.commands.specs.Verbs.{verbOf, takesWords}
+use Rattle.commands.specs.Rows.{rowOf, placesOf, kindOf}
 use Rattle.commands.specs.Words.{wordsOf, word, afterWord}
 use Rattle.commands.specs.Commands.{number, valuesJudged, onceGood, withNumber, withPair, withRow, lendAsked, showAsked, asked, pairIn, lineJudged, commandOf}
 use Rattle.commands.specs.declared.Fault.the-variants.{WordCount, LongRow}
@@ -24,18 +25,14 @@ use Rattle.commands.specs.declared.numbers.Count.{Count}
 use Rattle.commands.specs.declared.numbers.Count.the-variants as count
 use Rattle.commands.specs.declared.verbs.Verb.{Verb}
 use Rattle.commands.specs.declared.verbs.Verb.the-variants as verb
-use Rattle.commands.specs.declared.verbs.Row.{Row}
-use Rattle.commands.specs.declared.verbs.RowName.{RowName}
-use Rattle.commands.specs.declared.verbs.RowName.the-variants.{Known, Unknown}
+use Rattle.commands.specs.declared.rows.Row.{Row}
+use Rattle.commands.specs.declared.rows.RowName.{RowName}
+use Rattle.commands.specs.declared.rows.RowName.the-variants.{Known, Unknown}
 use Rattle.commands.proofs.WordLaws.{words-after}
-use Rattle.lending.specs.Rows.{Within}
-use Rattle.lending.specs.Lending.{lentIn}
-use Rattle.lending.specs.declared.rows.Lent.{Lent}
-use Rattle.lending.proofs.WithinLaws.{within-lent}
 
 -- what a command says of the words after a line's first two
 abbrev Promised : List (List ℕ) → Command → Type 0
-Promised values (Lend row) = (length values ≤ placesOf row) × (valuesJudged (signedRow row) values ≡ Good)
+Promised values (Lend row) = (length values ≤ placesOf row) × (valuesJudged (kindOf row) values ≡ Good)
 Promised values (Faulty f) = record {}
 Promised values Fresh = record {}
 Promised values (Other r) = record {}
@@ -63,9 +60,9 @@ module _ (values : List (List ℕ)) where
 
   lend-row : (row : Row) → Promised values (lendAsked values row)
   unfolding lendAsked onceGood
-  lend-row row = by-count (leb (length values) (placesOf row)) refl (valuesJudged (signedRow row) values) refl
+  lend-row row = by-count (leb (length values) (placesOf row)) refl (valuesJudged (kindOf row) values) refl
     where
-      by-count : (z : Bool) → leb (length values) (placesOf row) ≡ z → (j : Judged) → valuesJudged (signedRow row) values ≡ j
+      by-count : (z : Bool) → leb (length values) (placesOf row) ≡ z → (j : Judged) → valuesJudged (kindOf row) values ≡ j
           → Promised values (cond z (onceGood j (Lend row)) (Faulty LongRow))
       by-count true h Good e = (leb→le _ _ (rw h tt), e)
       by-count true h (Bad f) e = record {}
@@ -114,10 +111,7 @@ module _ (line more words : List ℕ) (p : more ≡ afterWord line) (q : words �
 
   -- what `lend` finds in them
   pub lend-ready : (asks row : Row) → commandOf line ≡ Lend asks → asks ≡ row
-      → (valuesJudged (signedRow row) (wordsOf words) ≡ Good) × (length (wordsOf words) ≤ placesOf row)
+      → (valuesJudged (kindOf row) (wordsOf words) ≡ Good) × (length (wordsOf words) ≤ placesOf row)
   lend-ready asks row c e =
       let p = subst (Promised (drop 2 (wordsOf line))) (c ∙ ap Lend e) (command-promised line) in
       rw values-after (p .1, p .0)
-
-pub lend-within : (line : List ℕ) (row : Row) (lent : Lent) → commandOf line ≡ Lend row → Within lent → Within (lentIn row (length (drop 2 (wordsOf line))) lent)
-lend-within line row lent c w = within-lent row _ lent w (subst (Promised (drop 2 (wordsOf line))) c (command-promised line) .0)

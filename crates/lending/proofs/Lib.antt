@@ -1,4 +1,4 @@
 mod JudgedLaws
 pub mod LendLaws
 mod StoreLaws
-pub mod WithinLaws
+pub mod PartLaws

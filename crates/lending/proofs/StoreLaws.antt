@@ -1,8 +1,7 @@
--- Laws of rows that are filled from the first place on, for numbers of any kind. Assumes nothing.
+-- Laws of rows that are filled from the first place on, for numbers of any kind.
 use Prim.Native.Nat.{ℕ, zero, suc, _+_, _≤_, _<_}
 use mathlib.Core.Path.{_≡_, refl, sym, ap, _∙_}
 use mathlib.Core.List.{List, [], _∷_, _++_, map, append-nil, append-assoc}
-use mathlib.Core.Bool.{Bool}
 use native.Mathlib.Numerals.{add-one}
 use native.Mathlib.Omega.{arith}
 use lib.ListN.{length, getD, take, drop, set, replicate, length-set, length-map, length-drop, length-replicate}
@@ -13,8 +12,8 @@ use Rattle.commands.specs.Words.{wordsOf}
 use Rattle.commands.specs.Commands.{valueJudged, valuesJudged}
 use Rattle.commands.specs.declared.faults.Judged.the-variants.{Good}
 use Rattle.commands.proofs.WordLaws.{words-turn, words-end}
-use Rattle.lending.specs.Rows.{allOf}
-use Rattle.lending.specs.Lending.{stored}
+use Rattle.commands.specs.declared.rows.Kind.{Kind}
+use Rattle.lending.specs.Stores.{stored}
 use Rattle.lending.proofs.JudgedLaws.{word-good}
 
 -- one value more
@@ -45,8 +44,32 @@ module _ {A : Type 0} (v : A) (old new : List A) (i : ℕ) (g : Clearing v old n
     long = length-set new i v ∙ g .long;
   }
 
-  pub clear-end : length new ≤ i → new ≡ allOf v old
+  pub clear-end : length new ≤ i → new ≡ replicate (length old) v
   clear-end h = let e : i ≡ length old = omega (arith, g .below, g .long) in rw (g .filled, e, drop-length old) (append-nil (replicate (length old) v))
+
+-- ---- the values of another row
+
+-- what holds where the first i values are copied
+pub record Copying {A : Type 0} (values old new : List A) (i : ℕ) : Type 0 where
+  pub below : i ≤ length values
+  pub filled : new ≡ take i values ++ drop i old
+  pub long : length new ≡ length old
+
+module _ {A : Type 0} (values old : List A) (room : length values ≤ length old) where
+  pub copy-start : Copying values old old 0
+  copy-start = record { below = omega arith; filled = refl; long = refl }
+
+  pub copy-more : (z : A) (new : List A) (i : ℕ) (v : A) → Copying values old new i → i < length values → v ≡ getD values i z → Copying values old (set new i v) (i + 1)
+  copy-more z new i v g h e = record {
+    below = omega arith;
+    filled =
+        rw (g .filled, add-one i, take-suc values i z h, ← e)
+        (store-more (take i values) old i v (length-take-le i values (g .below)) (omega arith));
+    long = length-set new i v ∙ g .long;
+  }
+
+  pub copy-end : (new : List A) (i : ℕ) → Copying values old new i → length values ≤ i → new ≡ stored values old
+  copy-end new i g h = let e : i ≡ length values = omega (arith, g .below) in rw (g .filled, e, take-length values)
 
 -- ---- a number for each word of a text
 
@@ -80,10 +103,10 @@ module _ {A : Type 0} (value : List ℕ → A) (text : List ℕ) (old new : List
   pub word-is : (left : List ℕ) (e : ℕ) → left ≡ drop at text → e ≡ firstAt 32 left → at < length text → getD (wordsOf text) i [] ≡ take e left
   word-is left e p q h = ap (λ (l : List (List ℕ)). getD l 0 []) (sym (drop-cons (wordsOf text) i [] (word-ahead h)) ∙ turn left e p q h)
 
-  pub judged-here : (isSigned : Bool) (left : List ℕ) (e : ℕ) (w : List ℕ) → left ≡ drop at text → e ≡ firstAt 32 left → at < length text
-      → w ≡ take e left → valuesJudged isSigned (wordsOf text) ≡ Good → valueJudged isSigned w ≡ Good
-  judged-here isSigned left e w p q h c j =
-      ap (valueJudged isSigned) (c ∙ sym (word-is left e p q h)) ∙ word-good isSigned (wordsOf text) i j (word-ahead h)
+  pub judged-here : (kind : Kind) (left : List ℕ) (e : ℕ) (w : List ℕ) → left ≡ drop at text → e ≡ firstAt 32 left → at < length text
+      → w ≡ take e left → valuesJudged kind (wordsOf text) ≡ Good → valueJudged kind w ≡ Good
+  judged-here kind left e w p q h c j =
+      ap (valueJudged kind) (c ∙ sym (word-is left e p q h)) ∙ word-good kind (wordsOf text) i j (word-ahead h)
 
   pub storing-more : (left : List ℕ) (e : ℕ) (v : A) → left ≡ drop at text → e ≡ firstAt 32 left → e ≤ length left → at < length text
       → length (wordsOf text) ≤ length old → v ≡ value (take e left) → Storing value text old (set new i v) (at + e + 1) (i + 1)

@@ -7,12 +7,15 @@ ghost use lib.ListN.{length, drop};
 ghost use Rattle.commands.specs.Words.{wordsOf};
 ghost use Rattle.commands.specs.Commands.{commandOf};
 ghost use Rattle.commands.specs.declared.Command.the-variants.{Lend};
-ghost use Rattle.lending.specs.Rows.{rows, Full};
-ghost use Rattle.lending.specs.Lending.{storedIn, lentIn};
+ghost use Rattle.lending.specs.Stores.{stores, Full, lentIn};
+ghost use Rattle.lending.specs.Lending.{storedIn};
 use crate::rows::Lent;
+use crate::rows::with_lent;
+use crate::storing::store_bytes;
 use crate::storing::store_counts;
 use crate::storing::store_numbers;
-use commands::verbs::Row;
+use commands::rows::Kind;
+use commands::rows::Row;
 use commands::words::after_word;
 
 // What is lent once the line's values are stored in a row.
@@ -20,47 +23,29 @@ pub fn lend(
     line: &[u8],
     lent: Lent,
     row: Row,
-    tails: &mut [u32],
-    heads: &mut [u32],
-    weights: &mut [u32],
-    x: &mut [i32],
-    y: &mut [i32],
-    boxes: &mut [i32],
-    route: &mut [u32],
+    counts: &mut [u32],
+    numbers: &mut [i32],
+    bytes: &mut [u8],
 ) -> Lent
-    requires { ⌜ (commandOf (now line) ≡ Lend row) × Full (rows (now tails) (now heads) (now weights) (now x) (now y) (now boxes) (now route)) ⌝ }
-    ensures { λ r. let words = drop 2 (wordsOf (now (line .entry))) in ⌜ (r ≡ lentIn row (length words) lent) × (rows (now (tails .exit)) (now (heads .exit)) (now (weights .exit)) (now (x .exit)) (now (y .exit)) (now (boxes .exit)) (now (route .exit)) ≡ storedIn row words (rows (now (tails .entry)) (now (heads .entry)) (now (weights .entry)) (now (x .entry)) (now (y .entry)) (now (boxes .entry)) (now (route .entry)))) ⌝ }
+    requires { ⌜ (commandOf (now line) ≡ Lend row) × Full (stores (now counts) (now numbers) (now bytes)) ⌝ }
+    ensures { λ r. let words = drop 2 (wordsOf (now (line .entry))) in ⌜ (r ≡ lentIn row (length words) lent) × (stores (now (counts .exit)) (now (numbers .exit)) (now (bytes .exit)) ≡ storedIn row words (stores (now (counts .entry)) (now (numbers .entry)) (now (bytes .entry)))) ⌝ }
 {
     let words = after_word(after_word(line));
-    let mut now_lent = lent;
-    match row {
-        Row::Tails => {
-            now_lent.tails = store_counts(tails, words);
-            return now_lent;
+    let s = row.stretch();
+    let kind = s.kind;
+    let a = s.start;
+    match kind {
+        Kind::Counts => {
+            let k = store_counts(&mut counts[a..], words);
+            return with_lent(lent, row, k);
         }
-        Row::Heads => {
-            now_lent.heads = store_counts(heads, words);
-            return now_lent;
+        Kind::Numbers => {
+            let k = store_numbers(&mut numbers[a..], words);
+            return with_lent(lent, row, k);
         }
-        Row::Weights => {
-            now_lent.weights = store_counts(weights, words);
-            return now_lent;
-        }
-        Row::X => {
-            now_lent.x = store_numbers(x, words);
-            return now_lent;
-        }
-        Row::Y => {
-            now_lent.y = store_numbers(y, words);
-            return now_lent;
-        }
-        Row::Boxes => {
-            now_lent.boxes = store_numbers(boxes, words);
-            return now_lent;
-        }
-        Row::Route => {
-            now_lent.route = store_counts(route, words);
-            return now_lent;
+        Kind::Bytes => {
+            let k = store_bytes(&mut bytes[a..], words);
+            return with_lent(lent, row, k);
         }
     }
 }

@@ -1,10 +1,10 @@
--- The listing that `boxes` prints. Assumes nothing: these are definitions.
+-- The listing that `boxes` prints.
 use Prim.Native.Nat.{ℕ, zero, suc, _+_, _*_}
 use mathlib.Core.List.{List, [], _++_}
 use lib.IntN.{ℤ, pos}
 use lib.ListN.{getD}
 use Rattle.scan.specs.Ascii.{bytes}
-use Rattle.files.specs.Decimal.{decimal, whole}
+use Rattle.scan.specs.Decimal.{decimal, whole}
 
 -- a number and the space after it
 abbrev pub countField : ℕ → List ℕ

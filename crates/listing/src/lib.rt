@@ -1,12 +1,12 @@
 // The listing of `boxes`: one line per arc.
 ghost use Prim.Native.Nat.{_+_, _*_, _≤_};
 ghost use lib.ListN.{length};
-ghost use Rattle.files.specs.Page.{Puts};
+ghost use Rattle.pages.specs.Page.{Puts};
 ghost use Rattle.listing.specs.Listing.{countField, wholeField, boxText, lineText, listing};
-use files::page::PAGE;
-use files::page::put;
-use files::page::put_count;
-use files::page::put_number;
+use pages::PAGE;
+use pages::put;
+use pages::put_count;
+use pages::put_number;
 
 // A number and a space.
 fn put_count_field(page: &mut [u8; PAGE], at: usize, n: u32) -> usize

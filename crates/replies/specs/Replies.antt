@@ -1,12 +1,13 @@
--- What the console replies, one line each. Assumes nothing: these are definitions.
+-- What the console replies, one line each.
 use Prim.Native.Nat.{ℕ}
 use mathlib.Core.List.{List, _++_}
 use lib.ListN.{take}
 use Rattle.scan.specs.Ascii.{bytes}
 use Rattle.rules.specs.declared.Judged.{Judged}
 use Rattle.rules.specs.declared.Judged.the-variants.{Fine, Refused}
-use Rattle.files.specs.Decimal.{decimal, countsText}
-use Rattle.files.specs.Refusals.{refusalLine}
+use Rattle.scan.specs.Decimal.{decimal}
+use Rattle.pages.specs.Spaced.{countsText}
+use Rattle.wording.specs.Refusals.{refusalLine}
 use Rattle.commands.specs.declared.Fault.{Fault}
 use Rattle.commands.specs.declared.Fault.the-variants.{LongLine, EmptyLine, ControlByte, EmptyWord, NoCommand, WordCount, NoRow, LongRow, Misspelt, BeyondType, FewerLent}
 use Rattle.search.specs.declared.Answer.{Answer}

@@ -1,17 +1,21 @@
--- What `show` replies. Assumes nothing: these are definitions.
+-- What `show` replies.
 use Prim.Native.Nat.{ℕ}
 use mathlib.Core.List.{List, _++_}
 use mathlib.Core.Bool.{cond}
 use lib.Dec.{ltb}
-use lib.IntN.{ℤ}
 use lib.ListN.{length, take}
 use Rattle.scan.specs.Ascii.{bytes}
-use Rattle.files.specs.Decimal.{decimal, whole, spaced}
+use Rattle.scan.specs.Decimal.{decimal, whole}
+use Rattle.pages.specs.Spaced.{spaced}
 use Rattle.commands.specs.declared.Fault.the-variants.{FewerLent}
 use Rattle.commands.specs.declared.Shown.{Shown}
 use Rattle.commands.specs.declared.Shown.the-variants.{All, First}
-use Rattle.commands.specs.declared.verbs.Row.{Row}
-use Rattle.commands.specs.declared.verbs.Row.the-variants.{Tails, Heads, Weights, X, Y, Boxes, Route}
+use Rattle.commands.specs.declared.rows.Row.{Row}
+use Rattle.commands.specs.declared.rows.Kind.{Kind}
+use Rattle.commands.specs.declared.rows.Kind.the-variants.{Counts, Numbers, Bytes}
+use Rattle.commands.specs.Rows.{Value, stretchOf, kindOf, nameOf}
+use Rattle.lending.specs.Stores.{Stores, storeOf, partAt}
+use Rattle.lending.specs.declared.rows.Lent.{Lent}
 use Rattle.replies.specs.Replies.{faultLine}
 
 -- how many places of a row are to be shown, where so many are lent
@@ -23,17 +27,18 @@ howMany (First k) lent = k
 unfoldable pub firstShown : {A : Type 0} → (A → List ℕ) → List ℕ → List A → ℕ → List ℕ
 firstShown text name row k = cond (ltb (length row) k) (faultLine FewerLent) (name ++ spaced text (take k row) ++ bytes "\n")
 
-abbrev pub showCounts : List ℕ → List ℕ → Shown → List ℕ
-showCounts name row shown = firstShown decimal name row (howMany shown (length row))
+-- the text of a value of a kind
+abbrev pub textOf : (kind : Kind) → Value kind → List ℕ
+textOf Counts v = decimal v
+textOf Numbers v = whole v
+textOf Bytes v = decimal v
 
-abbrev pub showNumbers : List ℕ → List ℤ → Shown → List ℕ
-showNumbers name row shown = firstShown whole name row (howMany shown (length row))
+-- a row whose values are of a kind
+abbrev pub shownAs : Kind → Row → Shown → Lent → Stores → List ℕ
+shownAs kind r shown lent s =
+    let values = partAt lent (stretchOf r) (storeOf kind s) in
+    firstShown (textOf kind) (nameOf r) values (howMany shown (length values))
 
-unfoldable pub showLine : Row → Shown → List ℕ → List ℕ → List ℕ → List ℤ → List ℤ → List ℤ → List ℕ → List ℕ
-showLine Tails shown tails heads weights x y boxes route = showCounts (bytes "tails") tails shown
-showLine Heads shown tails heads weights x y boxes route = showCounts (bytes "heads") heads shown
-showLine Weights shown tails heads weights x y boxes route = showCounts (bytes "weights") weights shown
-showLine X shown tails heads weights x y boxes route = showNumbers (bytes "x") x shown
-showLine Y shown tails heads weights x y boxes route = showNumbers (bytes "y") y shown
-showLine Boxes shown tails heads weights x y boxes route = showNumbers (bytes "boxes") boxes shown
-showLine Route shown tails heads weights x y boxes route = showCounts (bytes "route") route shown
+-- what is shown of a row's lent places
+abbrev pub showLine : Row → Shown → Lent → Stores → List ℕ
+showLine r shown lent s = shownAs (kindOf r) r shown lent s

@@ -2,14 +2,14 @@
 ghost use Prim.Native.Nat.{_≤_};
 ghost use mathlib.Core.Path.{_≡_};
 ghost use lib.ListN.{length, take};
-ghost use Rattle.files.specs.Page.{Puts};
+ghost use Rattle.pages.specs.Page.{Puts};
 ghost use Rattle.replies.specs.Replies.{sizesLine, answerLine};
-use crate::showing::put_counts;
-use files::page::PAGE;
-use files::page::put;
-use files::page::put_after;
-use files::refusals::put_refusal;
+use pages::PAGE;
+use pages::put;
+use pages::put_after;
+use pages::rows::put_counts;
 use search::Answer;
+use wording::put_refusal;
 
 // The first k places of a row, or all where there are fewer.
 fn first_places(row: &[u32], k: usize) -> &[u32]

@@ -1,49 +1,29 @@
 // Rows as replies.
 ghost use Prim.Native.Nat.{_≤_};
 ghost use mathlib.Core.Path.{_≡_};
-ghost use lib.ListN.{length};
-ghost use Rattle.files.specs.Page.{Puts};
-ghost use Rattle.files.specs.Decimal.{countsText, numbersText};
-ghost use Rattle.replies.specs.Rows.{Short};
-ghost use Rattle.replies.specs.Showing.{howMany, showCounts, showNumbers, showLine};
+ghost use lib.ListN.{take};
+ghost use Rattle.pages.specs.Page.{Puts};
+ghost use Rattle.pages.specs.Spaced.{spaced};
+ghost use Rattle.commands.specs.Rows.{stretchOf, kindOf, nameOf};
+ghost use Rattle.lending.specs.Stores.{stores, Full, lentAt, rowOn};
+ghost use Rattle.replies.specs.Showing.{howMany, textOf, showLine};
 use crate::words::put_fault;
 use commands::Fault;
 use commands::Shown;
-use commands::verbs::Row;
-use files::page::PAGE;
-use files::page::put;
-use files::page::put_after;
-use files::page::put_number;
-
-// The numbers of a row, each after a space.
-pub fn put_counts(page: &mut [u8; PAGE], start: usize, row: &[u32]) -> usize
-    requires { ⌜ (start ≤ 1000) × (length (now row) ≤ 16384) ⌝ }
-    ensures { λ r. ⌜ Puts (countsText (now (row .entry))) start (now (page .entry)) r (now (page .exit)) ⌝ }
-    ensures { λ r. ⌜ r ≤ 362000 ⌝ }
-{
-    let mut at = start;
-    let mut i = 0;
-    while i < row.len() {
-        at = put_after(page, at, b" ", row[i]);
-        i += 1;
-    }
-    at
-}
-
-pub fn put_numbers(page: &mut [u8; PAGE], start: usize, row: &[i32]) -> usize
-    requires { ⌜ (start ≤ 1000) × (length (now row) ≤ 16384) ⌝ }
-    ensures { λ r. ⌜ Puts (numbersText (now (row .entry))) start (now (page .entry)) r (now (page .exit)) ⌝ }
-    ensures { λ r. ⌜ r ≤ 362000 ⌝ }
-{
-    let mut at = start;
-    let mut i = 0;
-    while i < row.len() {
-        let a = put(page, at, b" ");
-        at = put_number(page, a, row[i]);
-        i += 1;
-    }
-    at
-}
+use commands::names::name_at;
+use commands::rows::Kind;
+use commands::rows::ROW_NAMES;
+use commands::rows::Row;
+use lending::rows::Lent;
+use lending::rows::bytes_of;
+use lending::rows::counts_of;
+use lending::rows::lent_at;
+use lending::rows::numbers_of;
+use pages::PAGE;
+use pages::put;
+use pages::rows::put_bytes;
+use pages::rows::put_counts;
+use pages::rows::put_numbers;
 
 // How many places of a row are to be shown, where so many are lent.
 fn how_many(shown: Shown, lent: usize) -> usize
@@ -55,33 +35,46 @@ fn how_many(shown: Shown, lent: usize) -> usize
     }
 }
 
-// A row's name and the numbers to be shown, where so many are lent.
-fn show_counts(page: &mut [u8; PAGE], name: &[u8], row: &[u32], shown: Shown) -> usize
-    requires { ⌜ (length (now name) ≤ 100) × (length (now row) ≤ 16384) ⌝ }
-    ensures { λ r. ⌜ Puts (showCounts (now (name .entry)) (now (row .entry)) shown) 0 (now (page .entry)) r (now (page .exit)) ⌝ }
-    ensures { λ r. ⌜ r ≤ 368640 ⌝ }
+// A row's name.
+fn put_name(page: &mut [u8; PAGE], row: Row) -> usize
+    ensures { λ r. ⌜ Puts (nameOf row) 0 (now (page .entry)) r (now (page .exit)) ⌝ }
+    ensures { λ r. ⌜ r ≤ 1000 ⌝ }
 {
-    let k = how_many(shown, row.len());
-    if row.len() < k {
-        return put_fault(page, Fault::FewerLent);
-    }
-    let a = put(page, 0, name);
-    let b = put_counts(page, a, &row[..k]);
-    put(page, b, b"\n")
+    let s = row.stretch();
+    put(page, 0, name_at(&ROW_NAMES, s.number))
 }
 
-fn show_numbers(page: &mut [u8; PAGE], name: &[u8], row: &[i32], shown: Shown) -> usize
-    requires { ⌜ (length (now name) ≤ 100) × (length (now row) ≤ 16384) ⌝ }
-    ensures { λ r. ⌜ Puts (showNumbers (now (name .entry)) (now (row .entry)) shown) 0 (now (page .entry)) r (now (page .exit)) ⌝ }
-    ensures { λ r. ⌜ r ≤ 368640 ⌝ }
+// The first k of a row's values, of which as many are lent.
+fn put_first(
+    page: &mut [u8; PAGE],
+    start: usize,
+    row: Row,
+    k: usize,
+    lent: Lent,
+    counts: &[u32],
+    numbers: &[i32],
+    bytes: &[u8],
+) -> usize
+    requires { ⌜ (start ≤ 1000) × (k ≤ lentAt lent (stretchOf row)) × Full (stores (now counts) (now numbers) (now bytes)) ⌝ }
+    ensures { λ r. ⌜ Puts (spaced (textOf (kindOf row)) (take k (rowOn row lent (stores (now (counts .entry)) (now (numbers .entry)) (now (bytes .entry)))))) start (now (page .entry)) r (now (page .exit)) ⌝ }
+    ensures { λ r. ⌜ r ≤ 362000 ⌝ }
 {
-    let k = how_many(shown, row.len());
-    if row.len() < k {
-        return put_fault(page, Fault::FewerLent);
+    let s = row.stretch();
+    let kind = s.kind;
+    match kind {
+        Kind::Counts => {
+            let values = counts_of(counts, lent, row);
+            return put_counts(page, start, &values[..k]);
+        }
+        Kind::Numbers => {
+            let values = numbers_of(numbers, lent, row);
+            return put_numbers(page, start, &values[..k]);
+        }
+        Kind::Bytes => {
+            let values = bytes_of(bytes, lent, row);
+            return put_bytes(page, start, &values[..k]);
+        }
     }
-    let a = put(page, 0, name);
-    let b = put_numbers(page, a, &row[..k]);
-    put(page, b, b"\n")
 }
 
 // `show`.
@@ -89,39 +82,22 @@ pub fn show_row(
     page: &mut [u8; PAGE],
     row: Row,
     shown: Shown,
-    tails: &[u32],
-    heads: &[u32],
-    weights: &[u32],
-    x: &[i32],
-    y: &[i32],
-    boxes: &[i32],
-    route: &[u32],
+    lent: Lent,
+    counts: &[u32],
+    numbers: &[i32],
+    bytes: &[u8],
 ) -> usize
-    requires { ⌜ Short (now tails) (now heads) (now weights) (now x) (now y) (now boxes) (now route) ⌝ }
-    ensures { λ r. ⌜ Puts (showLine row shown (now (tails .entry)) (now (heads .entry)) (now (weights .entry)) (now (x .entry)) (now (y .entry)) (now (boxes .entry)) (now (route .entry))) 0 (now (page .entry)) r (now (page .exit)) ⌝ }
+    requires { ⌜ Full (stores (now counts) (now numbers) (now bytes)) ⌝ }
+    ensures { λ r. ⌜ Puts (showLine row shown lent (stores (now (counts .entry)) (now (numbers .entry)) (now (bytes .entry)))) 0 (now (page .entry)) r (now (page .exit)) ⌝ }
     ensures { λ r. ⌜ r ≤ 368640 ⌝ }
 {
-    match row {
-        Row::Tails => {
-            return show_counts(page, b"tails", tails, shown);
-        }
-        Row::Heads => {
-            return show_counts(page, b"heads", heads, shown);
-        }
-        Row::Weights => {
-            return show_counts(page, b"weights", weights, shown);
-        }
-        Row::X => {
-            return show_numbers(page, b"x", x, shown);
-        }
-        Row::Y => {
-            return show_numbers(page, b"y", y, shown);
-        }
-        Row::Boxes => {
-            return show_numbers(page, b"boxes", boxes, shown);
-        }
-        Row::Route => {
-            return show_counts(page, b"route", route, shown);
-        }
+    let s = row.stretch();
+    let many = lent_at(lent, s);
+    let k = how_many(shown, many);
+    if many < k {
+        return put_fault(page, Fault::FewerLent);
     }
+    let a = put_name(page, row);
+    let b = put_first(page, a, row, k, lent, counts, numbers, bytes);
+    put(page, b, b"\n")
 }

@@ -1,12 +1,12 @@
 // The replies that are fixed words.
 ghost use Prim.Native.Nat.{_≤_};
-ghost use Rattle.files.specs.Page.{Puts};
+ghost use Rattle.pages.specs.Page.{Puts};
 ghost use Rattle.replies.specs.Replies.{okLine, helpLine, judgedLine, faultLine};
 use commands::Fault;
-use files::page::PAGE;
-use files::page::put;
-use files::refusals::put_refusal;
+use pages::PAGE;
+use pages::put;
 use rules::Judged;
+use wording::put_refusal;
 
 pub fn put_ok(page: &mut [u8; PAGE]) -> usize
     ensures { λ r. ⌜ Puts okLine 0 (now (page .entry)) r (now (page .exit)) ⌝ }

@@ -1,2 +1,3 @@
+pub mod DeskLaws
 mod RequestLaws
 pub mod Unique

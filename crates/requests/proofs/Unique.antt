@@ -1,64 +1,13 @@
--- For the same desk and the same file, each request has one reply and leaves one desk. Assumes nothing.
-use Prim.Native.Nat.{ℕ}
-use mathlib.Core.Path.{_≡_, refl, ap}
+-- For the same desk and the same file, each request has one reply and leaves one desk; where it asks for no file, whatever
+-- files hold.
+use mathlib.Core.Path.{_≡_, refl}
 use mathlib.Core.List.{List}
-use native.Mathlib.Omega.{arith}
-use lib.IntN.{ℤ}
-use Rattle.rules.specs.Paper.{judged-injective}
+use Prim.Native.Nat.{ℕ}
 use Rattle.files.specs.File.{Held}
-use Rattle.commands.specs.declared.Call.{Call}
 use Rattle.commands.specs.declared.Request.{Request}
-use Rattle.dimacs.proofs.Unique.{read-gr-unique, read-co-unique}
-use Rattle.dimacs.specs.declared.GrReply.{GrReply}
-use Rattle.search.specs.Paper.{paper-injective}
-use Rattle.search.specs.SaysLaws.{says-unique}
-use Rattle.boxwork.specs.SaysLaws.{build-unique, check-unique, update-unique}
-use Rattle.replies.specs.Replies.{judgedLine}
-use Rattle.requests.specs.Desk.{Desk, withBoxes, withRoute}
-use Rattle.requests.specs.Requests.{graphLine, graphSizes, placesLine, Makes, ReadsGraph, ReadsPlaces, Meets}
-use Rattle.requests.specs.declared.Sizes.{Sizes}
-
--- ---- the calls
-
-pub makes-unique : {d : Desk} {c : Call} {reply reply′ : List ℕ} {after after′ : Desk} → Makes d c reply after → Makes d c reply′ after′ → (reply ≡ reply′) × (after ≡ after′)
-makes-unique {d} (Makes.build j s) (Makes.build j′ s′) =
-    let same = build-unique s s′ in
-    (ap judgedLine (judged-injective j j′ (same .0)), ap (withBoxes d) (same .1))
-makes-unique (Makes.check j s) (Makes.check j′ s′) = (ap judgedLine (judged-injective j j′ (check-unique s s′)), refl)
-makes-unique (Makes.update j s) (Makes.update j′ s′) =
-    let same = update-unique s s′ in
-    (ap judgedLine (judged-injective j j′ (same .0)), rw (same .1, same .2))
-makes-unique {d} (Makes.search a s) (Makes.search a′ s′) =
-    let same = says-unique s s′ in
-    (rw (paper-injective a a′ (same .0), same .1), ap (withRoute d) (same .1))
-makes-unique {d} (Makes.boxed a s) (Makes.boxed a′ s′) =
-    let same = says-unique s s′ in
-    (rw (paper-injective a a′ (same .0), same .1), ap (withRoute d) (same .1))
-
--- ---- the files
-
-pub reads-graph-unique : {held : Held} {sizes next next′ : Sizes} {tails heads weights reply reply′ a a′ b b′ c c′ : List ℕ}
-    → ReadsGraph held sizes tails heads weights reply next a b c → ReadsGraph held sizes tails heads weights reply′ next′ a′ b′ c′
-    → (reply ≡ reply′) × (next ≡ next′) × (a ≡ a′) × (b ≡ b′) × (c ≡ c′)
-reads-graph-unique (ReadsGraph.no-file h) (ReadsGraph.no-file h′) = (refl, refl, refl, refl, refl)
-reads-graph-unique (ReadsGraph.no-file h) (ReadsGraph.file r h′ p) = let z : _≡_ {A = ℕ} 0 1 = cc in absurd (omega arith)
-reads-graph-unique (ReadsGraph.file r h p) (ReadsGraph.no-file h′) = let z : _≡_ {A = ℕ} 0 1 = cc in absurd (omega arith)
-reads-graph-unique {sizes = sizes} (ReadsGraph.file {bytes = bytes} r h p) (ReadsGraph.file {bytes = bytes′} r′ h′ p′) =
-    let same : bytes ≡ bytes′ = cc in
-    let e = read-gr-unique _ _ _ _ r r′ _ _ _ _ _ _ (rw same at p) p′ in
-    (ap graphLine (e .0), ap (λ (g : GrReply). graphSizes g sizes) (e .0), e .1, e .2, e .3)
-
-pub reads-places-unique : {held : Held} {n : ℕ} {x y : List ℤ} {reply reply′ : List ℕ} {a a′ b b′ : List ℤ}
-    → ReadsPlaces held n x y reply a b → ReadsPlaces held n x y reply′ a′ b′ → (reply ≡ reply′) × (a ≡ a′) × (b ≡ b′)
-reads-places-unique (ReadsPlaces.no-file h) (ReadsPlaces.no-file h′) = (refl, refl, refl)
-reads-places-unique (ReadsPlaces.no-file h) (ReadsPlaces.file r h′ p) = let z : _≡_ {A = ℕ} 0 1 = cc in absurd (omega arith)
-reads-places-unique (ReadsPlaces.file r h p) (ReadsPlaces.no-file h′) = let z : _≡_ {A = ℕ} 0 1 = cc in absurd (omega arith)
-reads-places-unique (ReadsPlaces.file {bytes = bytes} r h p) (ReadsPlaces.file {bytes = bytes′} r′ h′ p′) =
-    let same : bytes ≡ bytes′ = cc in
-    let e = read-co-unique _ _ _ _ r r′ _ _ _ _ (rw same at p) p′ in
-    (ap placesLine (e .0), e .1, e .2)
-
--- ---- the requests
+use Rattle.calls.proofs.Unique.{makes-unique, reads-graph-unique, reads-places-unique}
+use Rattle.requests.specs.Desk.{Desk}
+use Rattle.requests.specs.Requests.{AsksNoFile, Meets}
 
 pub meets-unique : {held : Held} {d : Desk} {r : Request} {reply reply′ : List ℕ} {after after′ : Desk} → Meets held d r reply after → Meets held d r reply′ after′ → (reply ≡ reply′) × (after ≡ after′)
 meets-unique Meets.set-n Meets.set-n = (refl, refl)
@@ -66,5 +15,15 @@ meets-unique Meets.set-m Meets.set-m = (refl, refl)
 meets-unique Meets.show Meets.show = (refl, refl)
 meets-unique (Meets.gr g) (Meets.gr g′) = let e = reads-graph-unique g g′ in (e .0, rw (e .1, e .2, e .3, e .4))
 meets-unique (Meets.co p) (Meets.co p′) = let e = reads-places-unique p p′ in (e .0, rw (e .1, e .2))
-meets-unique (Meets.called c) (Meets.called c′) = makes-unique c c′
+meets-unique (Meets.called c) (Meets.called c′) = let e = makes-unique c c′ in (e .0, rw (e .1))
 meets-unique Meets.help Meets.help = (refl, refl)
+
+-- what files hold is nothing to a request that asks for none
+pub meets-any : {held held′ : Held} {d : Desk} {r : Request} {reply : List ℕ} {after : Desk} → AsksNoFile r → Meets held d r reply after → Meets held′ d r reply after
+meets-any a Meets.set-n = Meets.set-n
+meets-any a Meets.set-m = Meets.set-m
+meets-any a Meets.show = Meets.show
+meets-any a (Meets.gr g) = absurd a
+meets-any a (Meets.co p) = absurd a
+meets-any a (Meets.called c) = Meets.called c
+meets-any a Meets.help = Meets.help

@@ -1,45 +1,39 @@
--- What lies on the console's desk when a request is met. Assumes nothing: these are definitions.
+-- What lies on the console's desk when a request is met.
 use Prim.Native.Nat.{ℕ}
 use mathlib.Core.List.{List}
 use lib.IntN.{ℤ}
-use Rattle.walks.specs.Rows as walks
-use Rattle.requests.specs.declared.Sizes.{Sizes}
+use Rattle.commands.specs.Rows.{Value, kindOf}
+use Rattle.commands.specs.declared.rows.Row.{Row}
+use Rattle.commands.specs.declared.rows.Row.the-variants.{Tails, Heads, Weights, X, Y, Boxes, Route}
+use Rattle.lending.specs.Stores.{Stores, stores, rowOn, withRow}
+use Rattle.lending.specs.declared.rows.Lent.{Lent}
+use Rattle.calls.specs.Calls.{Given, given}
+use Rattle.calls.specs.declared.Sizes.{Sizes}
 
--- the numbers n and m, and the places of each row that are lent
+-- the numbers n and m, what is lent of each row, and the stores with the rows
 pub record Desk : Type 0 where
   pub sizes : Sizes
-  pub tails : List ℕ
-  pub heads : List ℕ
-  pub weights : List ℕ
-  pub x : List ℤ
-  pub y : List ℤ
-  pub boxes : List ℤ
-  pub route : List ℕ
+  pub lent : Lent
+  pub all : Stores
 
-abbrev pub desk : Sizes → List ℕ → List ℕ → List ℕ → List ℤ → List ℤ → List ℤ → List ℕ → Desk
-desk sizes tails heads weights x y boxes route =
-    record { sizes = sizes; tails = tails; heads = heads; weights = weights; x = x; y = y; boxes = boxes; route = route }
+abbrev pub desk : Sizes → Lent → List ℕ → List ℤ → List ℕ → Desk
+desk sizes lent counts numbers bytes = record { sizes = sizes; lent = lent; all = stores counts numbers bytes }
 
--- the rows of the network
-abbrev pub arcs : Desk → walks.Rows
-arcs d = walks.rows (d .tails) (d .heads) (d .weights)
+-- the lent places of a row
+abbrev pub row : (r : Row) → Desk → List (Value (kindOf r))
+row r d = rowOn r (d .lent) (d .all)
 
--- ---- the desk with other contents in some places
+-- the desk with other values in a row's first places
+abbrev pub put : (r : Row) → List (Value (kindOf r)) → Desk → Desk
+put r values d = record { sizes = d .sizes; lent = d .lent; all = withRow r values (d .all) }
 
 abbrev pub withSizes : Desk → Sizes → Desk
-withSizes d sizes = desk sizes (d .tails) (d .heads) (d .weights) (d .x) (d .y) (d .boxes) (d .route)
+withSizes d sizes = record { sizes = sizes; lent = d .lent; all = d .all }
 
-abbrev pub withArcs : Desk → List ℕ → List ℕ → List ℕ → Desk
-withArcs d tails heads weights = desk (d .sizes) tails heads weights (d .x) (d .y) (d .boxes) (d .route)
+-- what a call is given: the lent places of its rows
+abbrev pub lentRows : Desk → Given
+lentRows d = given (row Tails d) (row Heads d) (row Weights d) (row X d) (row Y d) (row Boxes d) (row Route d)
 
-abbrev pub withPlaces : Desk → List ℤ → List ℤ → Desk
-withPlaces d x y = desk (d .sizes) (d .tails) (d .heads) (d .weights) x y (d .boxes) (d .route)
-
-abbrev pub withBoxes : Desk → List ℤ → Desk
-withBoxes d boxes = desk (d .sizes) (d .tails) (d .heads) (d .weights) (d .x) (d .y) boxes (d .route)
-
-abbrev pub withWeights : Desk → List ℕ → Desk
-withWeights d weights = withArcs d (d .tails) (d .heads) weights
-
-abbrev pub withRoute : Desk → List ℕ → Desk
-withRoute d route = desk (d .sizes) (d .tails) (d .heads) (d .weights) (d .x) (d .y) (d .boxes) route
+-- the desk once a call has given back the rows that calls write
+abbrev pub givenBack : Given → Desk → Desk
+givenBack g d = put Route (g .route) (put Boxes (g .boxes) (put Weights (g .weights) d))

@@ -1,94 +1,51 @@
--- What is replied to a request, and what it leaves on the desk. Assumes nothing: these are definitions.
+-- What is replied to a request, and what it leaves on the desk.
 use Prim.Native.Nat.{ℕ}
-use mathlib.Core.Path.{_≡_}
 use mathlib.Core.List.{List}
 use lib.IntN.{ℤ}
-use Rattle.rules.specs.Paper.{judgedReply}
-use Rattle.rules.specs.declared.Judged.{Judged}
-use Rattle.files.specs.File.{Held, text, unread}
-use Rattle.files.specs.Refusals.{refusalLine, noFileLine}
+use Rattle.files.specs.File.{Held}
+use Rattle.pages.specs.Page.{Printed, Replied}
 use Rattle.commands.specs.declared.Call.{Call}
-use Rattle.commands.specs.declared.Call.the-variants as call
 use Rattle.commands.specs.declared.Request.{Request}
 use Rattle.commands.specs.declared.Request.the-variants as request
 use Rattle.commands.specs.declared.Shown.{Shown}
-use Rattle.commands.specs.declared.verbs.Row.{Row}
-use Rattle.dimacs.specs.Promise.{GrPromise, CoPromise}
-use Rattle.dimacs.specs.declared.GrReply.{GrReply}
-use Rattle.dimacs.specs.declared.GrReply.the-variants as graph
-use Rattle.dimacs.specs.declared.CoReply.{CoReply}
-use Rattle.dimacs.specs.declared.CoReply.the-variants as places
-use Rattle.search.specs.Says.{SearchSays, BoxedSays}
-use Rattle.search.specs.Paper.{paper}
-use Rattle.search.specs.declared.Answer.{Answer}
-use Rattle.boxwork.specs.Says.{BuildSays, CheckSays, UpdateSays}
-use Rattle.replies.specs.Replies.{okLine, helpLine, judgedLine, sizesLine, answerLine}
+use Rattle.commands.specs.declared.rows.Row.{Row}
+use Rattle.commands.specs.declared.rows.Row.the-variants.{Tails, Heads, Weights, X, Y}
+use Rattle.replies.specs.Replies.{okLine, helpLine}
 use Rattle.replies.specs.Showing.{showLine}
-use Rattle.requests.specs.Desk.{Desk, arcs, withSizes, withArcs, withPlaces, withBoxes, withWeights, withRoute}
-use Rattle.requests.specs.declared.Sizes.{Sizes}
+use Rattle.calls.specs.Calls.{Given, Makes}
+use Rattle.calls.specs.Texts.{ReadsGraph, ReadsPlaces}
+use Rattle.calls.specs.declared.Sizes.{Sizes}
+use Rattle.requests.specs.Desk.{Desk, row, put, withSizes, lentRows, givenBack}
 
--- ---- the calls: what each leaves, and its answer in a line
-
-pub data Makes (d : Desk) : Call → List ℕ → Desk → Type 0 where
-  build : (j : Judged) {boxes : List ℤ}
-      → BuildSays (d .sizes .n) (d .sizes .m) (arcs d) (d .x) (d .y) (d .boxes) (judgedReply j) boxes
-      → Makes d call.Build (judgedLine j) (withBoxes d boxes)
-  check : (j : Judged)
-      → CheckSays (d .sizes .n) (d .sizes .m) (arcs d) (d .x) (d .y) (d .boxes) (judgedReply j)
-      → Makes d call.Check (judgedLine j) d
-  update : {arc weight : ℕ} (j : Judged) {weights : List ℕ} {boxes : List ℤ}
-      → UpdateSays (d .sizes .n) (d .sizes .m) (arcs d) (d .x) (d .y) (d .boxes) arc weight (judgedReply j) weights boxes
-      → Makes d (call.Update arc weight) (judgedLine j) (withBoxes (withWeights d weights) boxes)
-  search : {s t : ℕ} (a : Answer) {route : List ℕ}
-      → SearchSays (d .sizes .n) (d .sizes .m) (arcs d) s t (d .route) (paper a) route
-      → Makes d (call.Search s t) (answerLine a route) (withRoute d route)
-  boxed : {s t : ℕ} (a : Answer) {route : List ℕ}
-      → BoxedSays (d .sizes .n) (d .sizes .m) (arcs d) (d .x) (d .y) (d .boxes) s t (d .route) (paper a) route
-      → Makes d (call.Boxed s t) (answerLine a route) (withRoute d route)
-
--- ---- the files: `gr` and `co`
-
--- n and m of a graph file that was read, or why it was refused
-unfoldable pub graphLine : GrReply → List ℕ
-graphLine (graph.Read n m) = sizesLine n m
-graphLine (graph.Refused r) = refusalLine r
-
--- the numbers from now on
-unfoldable pub graphSizes : GrReply → Sizes → Sizes
-graphSizes (graph.Read n m) sizes = record { n = n; m = m }
-graphSizes (graph.Refused r) sizes = sizes
-
-unfoldable pub placesLine : CoReply → List ℕ
-placesLine places.Read = okLine
-placesLine (places.Refused r) = refusalLine r
-
--- the file is read into the arc rows, and gives n and m; where it is refused or not read, everything stays
-pub data ReadsGraph (held : Held) (sizes : Sizes) (tails heads weights : List ℕ) : List ℕ → Sizes → List ℕ → List ℕ → List ℕ → Type 0 where
-  no-file : held ≡ unread → ReadsGraph held sizes tails heads weights noFileLine sizes tails heads weights
-  file : {bytes : List ℕ} (r : GrReply) {tails′ heads′ weights′ : List ℕ}
-      → held ≡ text bytes
-      → GrPromise bytes tails heads weights r tails′ heads′ weights′
-      → ReadsGraph held sizes tails heads weights (graphLine r) (graphSizes r sizes) tails′ heads′ weights′
-
-pub data ReadsPlaces (held : Held) (n : ℕ) (x y : List ℤ) : List ℕ → List ℤ → List ℤ → Type 0 where
-  no-file : held ≡ unread → ReadsPlaces held n x y noFileLine x y
-  file : {bytes : List ℕ} (r : CoReply) {x′ y′ : List ℤ}
-      → held ≡ text bytes
-      → CoPromise bytes n x y r x′ y′
-      → ReadsPlaces held n x y (placesLine r) x′ y′
-
--- ---- the requests; a file that is asked for holds `held`
-
+-- a request's reply, and the desk that it leaves; a file that is asked for holds `held`
 pub data Meets (held : Held) (d : Desk) : Request → List ℕ → Desk → Type 0 where
   set-n : {v : ℕ} → Meets held d (request.SetN v) okLine (withSizes d (record { n = v; m = d .sizes .m }))
   set-m : {v : ℕ} → Meets held d (request.SetM v) okLine (withSizes d (record { n = d .sizes .n; m = v }))
-  show : {row : Row} {shown : Shown}
-      → Meets held d (request.Show row shown) (showLine row shown (d .tails) (d .heads) (d .weights) (d .x) (d .y) (d .boxes) (d .route)) d
+  show : {r : Row} {shown : Shown}
+      → Meets held d (request.Show r shown) (showLine r shown (d .lent) (d .all)) d
   gr : {reply : List ℕ} {sizes : Sizes} {tails heads weights : List ℕ}
-      → ReadsGraph held (d .sizes) (d .tails) (d .heads) (d .weights) reply sizes tails heads weights
-      → Meets held d request.ReadGr reply (withSizes (withArcs d tails heads weights) sizes)
+      → ReadsGraph held (d .sizes) (row Tails d) (row Heads d) (row Weights d) reply sizes tails heads weights
+      → Meets held d request.ReadGr reply (withSizes (put Weights weights (put Heads heads (put Tails tails d))) sizes)
   co : {reply : List ℕ} {x y : List ℤ}
-      → ReadsPlaces held (d .sizes .n) (d .x) (d .y) reply x y
-      → Meets held d request.ReadCo reply (withPlaces d x y)
-  called : {c : Call} {reply : List ℕ} {after : Desk} → Makes d c reply after → Meets held d (request.Call c) reply after
+      → ReadsPlaces held (d .sizes .n) (row X d) (row Y d) reply x y
+      → Meets held d request.ReadCo reply (put Y y (put X x d))
+  called : {c : Call} {reply : List ℕ} {left : Given} → Makes (d .sizes) (lentRows d) c reply left → Meets held d (request.Call c) reply (givenBack left d)
   help : Meets held d request.Help helpLine d
+
+-- a request that asks for no file: all but `gr` and `co`
+abbrev pub AsksNoFile : Request → Type 0
+AsksNoFile (request.SetN v) = Unit
+AsksNoFile (request.SetM v) = Unit
+AsksNoFile (request.Show r shown) = Unit
+AsksNoFile request.ReadGr = ⊥
+AsksNoFile request.ReadCo = ⊥
+AsksNoFile (request.Call c) = Unit
+AsksNoFile request.Help = Unit
+
+-- a request is met, where a file that it asks for holds `held`, and its reply stands on the page up to the place `end`
+abbrev pub Met : Held → Desk → Request → Desk → List ℕ → ℕ → List ℕ → Type 0
+Met held before asks after page end page′ = Printed (λ reply. Meets held before asks reply after) page end page′
+
+-- a request is met, for some contents of a file that it asks for, and its reply stands on the page up to the place `end`
+abbrev pub Obeyed : Desk → Request → Desk → List ℕ → ℕ → List ℕ → Type 0
+Obeyed before asks after page end page′ = Replied (λ (held : Held) reply. Meets held before asks reply after) page end page′

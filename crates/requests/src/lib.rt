@@ -1,49 +1,42 @@
 // What the console does: a request is met with just the places that are lent, and its reply is put on a page.
-pub mod calls;
+pub mod copies;
 pub mod texts;
 
 ghost use Prim.Native.Nat.{_≤_};
-ghost use Rattle.files.specs.Page.{Replied};
-ghost use Rattle.replies.specs.Rows.{Short};
+ghost use lib.ListN.{length};
+ghost use Rattle.files.specs.File.{Within, heldIn};
+ghost use Rattle.lending.specs.Stores.{stores, Full};
 ghost use Rattle.requests.specs.Desk.{desk};
-ghost use Rattle.requests.specs.Requests.{Meets};
-use crate::calls::make;
-use crate::texts::read_graph;
-use crate::texts::read_places;
+ghost use Rattle.requests.specs.Requests.{Met, Obeyed};
+use crate::copies::call_on;
+use crate::texts::graph;
+use crate::texts::places;
+use calls::Done;
+use calls::Sizes;
 use commands::Request;
-use files::page::PAGE;
+use commands::words::after_word;
+use files::File;
+use files::read_file;
+use lending::rows::Lent;
+use pages::PAGE;
 use replies::showing::show_row;
 use replies::words::put_help;
 use replies::words::put_ok;
 
-// The numbers that are handed in with the rows.
-pub struct Sizes {
-    pub n: u32,
-    pub m: u32,
-}
-
-// What a request leaves: the numbers from now on, and where its reply ends on the page.
-pub struct Done {
-    pub sizes: Sizes,
-    pub end: usize,
-}
-
-// Does what a line asks for with just the places that are lent. The line still has the name of a file.
-pub fn obey(
+// Does what a request asks for with just the places that are lent, and with what was read of a file.
+fn meet(
     page: &mut [u8; PAGE],
-    line: &[u8],
     request: Request,
+    text: &[u8],
+    file: File,
     sizes: Sizes,
-    tails: &mut [u32],
-    heads: &mut [u32],
-    weights: &mut [u32],
-    x: &mut [i32],
-    y: &mut [i32],
-    boxes: &mut [i32],
-    route: &mut [u32],
+    lent: Lent,
+    counts: &mut [u32],
+    numbers: &mut [i32],
+    bytes: &mut [u8],
 ) -> Done
-    requires { ⌜ Short (now tails) (now heads) (now weights) (now x) (now y) (now boxes) (now route) ⌝ }
-    ensures { λ r. ⌜ Replied (λ held reply. Meets held (desk sizes (now (tails .entry)) (now (heads .entry)) (now (weights .entry)) (now (x .entry)) (now (y .entry)) (now (boxes .entry)) (now (route .entry))) request reply (desk (r .sizes) (now (tails .exit)) (now (heads .exit)) (now (weights .exit)) (now (x .exit)) (now (y .exit)) (now (boxes .exit)) (now (route .exit)))) (now (page .entry)) (r .end) (now (page .exit)) ⌝ }
+    requires { ⌜ Full (stores (now counts) (now numbers) (now bytes)) × Within (length (now text)) file ⌝ }
+    ensures { λ r. let before = desk sizes lent (now (counts .entry)) (now (numbers .entry)) (now (bytes .entry)) in let after = desk (r .sizes) lent (now (counts .exit)) (now (numbers .exit)) (now (bytes .exit)) in ⌜ Met (heldIn (now (text .entry)) file) before request after (now (page .entry)) (r .end) (now (page .exit)) ⌝ }
     ensures { λ r. ⌜ r .end ≤ 368640 ⌝ }
 {
     match request {
@@ -60,20 +53,20 @@ pub fn obey(
             };
         }
         Request::Show(row, shown) => {
-            let end = show_row(page, row, shown, tails, heads, weights, x, y, boxes, route);
+            let end = show_row(page, row, shown, lent, counts, numbers, bytes);
             return Done { sizes, end };
         }
         Request::ReadGr => {
-            return read_graph(page, line, sizes, tails, heads, weights);
+            return graph(page, text, file, sizes, lent, counts, numbers, bytes);
         }
         Request::ReadCo => {
             return Done {
                 sizes,
-                end: read_places(page, line, sizes.n, x, y),
+                end: places(page, text, file, sizes, lent, counts, numbers, bytes),
             };
         }
         Request::Call(call) => {
-            let end = make(page, call, sizes, tails, heads, weights, x, y, boxes, route);
+            let end = call_on(page, call, sizes, lent, counts, numbers, bytes);
             return Done { sizes, end };
         }
         Request::Help => {
@@ -81,6 +74,74 @@ pub fn obey(
                 sizes,
                 end: put_help(page),
             };
+        }
+    }
+}
+
+// Opens and reads the file that a line names, and meets the request.
+fn with_file(
+    page: &mut [u8; PAGE],
+    line: &[u8],
+    request: Request,
+    sizes: Sizes,
+    lent: Lent,
+    counts: &mut [u32],
+    numbers: &mut [i32],
+    bytes: &mut [u8],
+) -> Done
+    requires { ⌜ Full (stores (now counts) (now numbers) (now bytes)) ⌝ }
+    ensures { λ r. let before = desk sizes lent (now (counts .entry)) (now (numbers .entry)) (now (bytes .entry)) in let after = desk (r .sizes) lent (now (counts .exit)) (now (numbers .exit)) (now (bytes .exit)) in ⌜ Obeyed before request after (now (page .entry)) (r .end) (now (page .exit)) ⌝ }
+    ensures { λ r. ⌜ r .end ≤ 368640 ⌝ }
+{
+    let mut text = [0u8; 65537];
+    let file = read_file(after_word(line), &mut text);
+    meet(
+        page,
+        request,
+        &text,
+        file,
+        sizes,
+        lent,
+        counts,
+        numbers,
+        bytes,
+    )
+}
+
+// Does what a line asks for with just the places that are lent. The line still has the name of a file.
+pub fn obey(
+    page: &mut [u8; PAGE],
+    line: &[u8],
+    request: Request,
+    sizes: Sizes,
+    lent: Lent,
+    counts: &mut [u32],
+    numbers: &mut [i32],
+    bytes: &mut [u8],
+) -> Done
+    requires { ⌜ Full (stores (now counts) (now numbers) (now bytes)) ⌝ }
+    ensures { λ r. ⌜ Obeyed (desk sizes lent (now (counts .entry)) (now (numbers .entry)) (now (bytes .entry))) request (desk (r .sizes) lent (now (counts .exit)) (now (numbers .exit)) (now (bytes .exit))) (now (page .entry)) (r .end) (now (page .exit)) ⌝ }
+    ensures { λ r. ⌜ r .end ≤ 368640 ⌝ }
+{
+    match request {
+        Request::ReadGr => {
+            return with_file(page, line, request, sizes, lent, counts, numbers, bytes);
+        }
+        Request::ReadCo => {
+            return with_file(page, line, request, sizes, lent, counts, numbers, bytes);
+        }
+        _ => {
+            return meet(
+                page,
+                request,
+                line,
+                File::NoFile,
+                sizes,
+                lent,
+                counts,
+                numbers,
+                bytes,
+            );
         }
     }
 }

@@ -1,3 +1,4 @@
 pub mod Limits
 pub mod Paper
+pub mod Told
 pub mod Judging

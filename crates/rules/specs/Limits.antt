@@ -1,4 +1,4 @@
--- The limits of the paper, "Sizes". Assumes nothing.
+-- The limits of the paper, "Sizes".
 use Prim.Native.Nat.{ℕ}
 use lib.IntN.{ℤ, pos, negsuc}
 

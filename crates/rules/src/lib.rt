@@ -1,6 +1,9 @@
 // The limits of the route box and its numbered refusals, shared by every part.
+ghost use Prim.Native.Nat.{_≤_};
 ghost use mathlib.Core.Path.{_≡_};
-ghost use Rattle.rules.specs.Paper.{numberOf, placeOf};
+ghost use mathlib.Core.List.{[], _∷_};
+ghost use Rattle.rules.specs.Paper.{refusal, numberOf, placeOf};
+ghost use Rattle.rules.specs.Told.{toldOf};
 
 // At most so many nodes and arcs.
 pub const NODES: u32 = 512;
@@ -54,46 +57,79 @@ pub enum Judged {
     Refused(Refusal),
 }
 
+// A refusal as the paper tells it: its number, and so many values, which stand first; the other places hold 0.
+pub struct Told {
+    pub number: u32,
+    pub count: usize,
+    pub values: [u32; 3],
+}
+
+// A number without values, with one, with two.
+fn alone(number: u32) -> Told
+    ensures { λ r. ⌜ r ≡ toldOf (record { number = number; values = [] }) ⌝ }
+{
+    Told {
+        number,
+        count: 0,
+        values: [0, 0, 0],
+    }
+}
+
+fn with(number: u32, a: u32) -> Told
+    ensures { λ r. ⌜ r ≡ toldOf (record { number = number; values = a ∷ [] }) ⌝ }
+{
+    Told {
+        number,
+        count: 1,
+        values: [a, 0, 0],
+    }
+}
+
+fn with_two(number: u32, a: u32, b: u32) -> Told
+    ensures { λ r. ⌜ r ≡ toldOf (record { number = number; values = a ∷ b ∷ [] }) ⌝ }
+{
+    Told {
+        number,
+        count: 2,
+        values: [a, b, 0],
+    }
+}
+
 impl Refusal {
-    // The paper's number of a refusal.
+    // The paper's number of a refusal and its values.
+    pub fn told(self) -> Told
+        ensures { λ r. ⌜ r ≡ toldOf (refusal self) ⌝ }
+        ensures { λ r. ⌜ r .count ≤ 3 ⌝ }
+    {
+        match self {
+            Refusal::TextTooLong => alone(1),
+            Refusal::RowTooShort => alone(2),
+            Refusal::NoForm { line } => with(3, line),
+            Refusal::OutOfOrder { line } => with(4, line),
+            Refusal::BeyondLimits { line } => with(5, line),
+            Refusal::CountsDisagree { line } => with(6, line),
+            Refusal::NodeAgain { line } => with(7, line),
+            Refusal::BadArc { arc } => with(8, arc),
+            Refusal::BadCoordinate { node } => with(9, node),
+            Refusal::BadBox { arc } => with(10, arc),
+            Refusal::NotInNetwork => alone(11),
+            Refusal::NoWalk { settled } => with(12, settled),
+            Refusal::BoxMisses { arc, node } => with_two(13, arc, node),
+        }
+    }
+
     pub fn number(self) -> u32
         ensures { λ r. ⌜ r ≡ numberOf self ⌝ }
     {
-        match self {
-            Refusal::TextTooLong => 1,
-            Refusal::RowTooShort => 2,
-            Refusal::NoForm { line: _ } => 3,
-            Refusal::OutOfOrder { line: _ } => 4,
-            Refusal::BeyondLimits { line: _ } => 5,
-            Refusal::CountsDisagree { line: _ } => 6,
-            Refusal::NodeAgain { line: _ } => 7,
-            Refusal::BadArc { arc: _ } => 8,
-            Refusal::BadCoordinate { node: _ } => 9,
-            Refusal::BadBox { arc: _ } => 10,
-            Refusal::NotInNetwork => 11,
-            Refusal::NoWalk { settled: _ } => 12,
-            Refusal::BoxMisses { arc: _, node: _ } => 13,
-        }
+        let told = self.told();
+        told.number
     }
 
     // The first of a refusal's values, or 0 where it has none: what `boxes` prints as the place.
     pub fn place(self) -> u32
         ensures { λ r. ⌜ r ≡ placeOf self ⌝ }
     {
-        match self {
-            Refusal::TextTooLong => 0,
-            Refusal::RowTooShort => 0,
-            Refusal::NoForm { line } => line,
-            Refusal::OutOfOrder { line } => line,
-            Refusal::BeyondLimits { line } => line,
-            Refusal::CountsDisagree { line } => line,
-            Refusal::NodeAgain { line } => line,
-            Refusal::BadArc { arc } => arc,
-            Refusal::BadCoordinate { node } => node,
-            Refusal::BadBox { arc } => arc,
-            Refusal::NotInNetwork => 0,
-            Refusal::NoWalk { settled } => settled,
-            Refusal::BoxMisses { arc, node: _ } => arc,
-        }
+        let told = self.told();
+        told.values[0]
     }
 }

@@ -3,3 +3,4 @@ mod LineLaws
 mod MatchingLaws
 pub mod NumberLaws
 pub mod PieceLaws
+pub mod DecimalLaws

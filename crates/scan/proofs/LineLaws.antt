@@ -1,4 +1,4 @@
--- Laws of the lines of a format. Assumes nothing.
+-- Laws of the lines of a format.
 use mathlib.Core.Path.{_≡_, refl, ap, _∙_}
 use mathlib.Core.List.{List, [], _∷_}
 use mathlib.Core.Bool.{true, false}
@@ -7,7 +7,7 @@ use Prim.Native.Char.{code}
 use lib.ListN.{length, take}
 use borrow.Author.Tests.{eq-eqb, ne-eqb}
 use Rattle.scan.specs.Pieces.{firstAt, firstField, sameBytes, fieldsOf}
-use Rattle.scan.specs.Fields.{none, matched}
+use Rattle.scan.specs.Fields.{matched}
 use Rattle.scan.specs.Line.{problemLine, dataLine, faulty, lineOf}
 use Rattle.scan.specs.Held.{heldFields, heldLine}
 use Rattle.scan.specs.declared.fields.Kind.the-variants.{EmptyLine, NoLetter}
@@ -50,12 +50,12 @@ pub record Letters (problem s l p : List ℕ) : Type 0 where
   pub form-letter : p ≡ firstField problem
 
 module _ (problem rows s l p : List ℕ) (g : Letters problem s l p) where
-  pub line-problem : (f : Fields) → sameBytes l p ≡ true → f ≡ heldFields (matched (fieldsOf problem) 1 (fieldsOf s) none) → problemLine f ≡ heldLine (lineOf problem rows s)
+  pub line-problem : (f : Fields) → sameBytes l p ≡ true → f ≡ heldFields (matched (fieldsOf problem) 1 (fieldsOf s)) → problemLine f ≡ heldLine (lineOf problem rows s)
   unfolding lineOf
   line-problem f t h = rw (ne-eqb (length s) 0 (g .some), ← g .letter, ← g .form-letter, g .not-c, t, h) (held-problem _)
 
   module _ (not-p : sameBytes l p ≡ false) (q : List ℕ) (letter-q : q ≡ firstField rows) where
-    pub line-data : (f : Fields) → sameBytes l q ≡ true → f ≡ heldFields (matched (fieldsOf rows) 1 (fieldsOf s) none) → dataLine f ≡ heldLine (lineOf problem rows s)
+    pub line-data : (f : Fields) → sameBytes l q ≡ true → f ≡ heldFields (matched (fieldsOf rows) 1 (fieldsOf s)) → dataLine f ≡ heldLine (lineOf problem rows s)
     unfolding lineOf
     line-data f t h = rw (ne-eqb (length s) 0 (g .some), ← g .letter, ← g .form-letter, ← letter-q, g .not-c, not-p, t, h) (held-data _)
 

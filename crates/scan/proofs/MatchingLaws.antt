@@ -1,47 +1,41 @@
--- Laws of the fields of a line, as they are read from left to right. Assumes nothing.
+-- Laws of the fields of a line, as they are read from left to right.
 use mathlib.Core.Path.{_≡_, refl, sym, ap, _∙_}
 use mathlib.Core.Logic.{⊎-elim}
 use mathlib.Core.List.{List, [], _∷_}
 use mathlib.Core.Bool.{cond}
-use Prim.Native.Nat.{ℕ, _+_, _-_, _≤_, _<_}
+use Prim.Native.Nat.{ℕ, _+_, _-_, _^_, _≤_, _<_}
 use native.Mathlib.Nat.{eq-or-lt-of-le}
 use native.Mathlib.Omega.{arith}
 use lib.Dec.{ltb}
-use lib.ListN.{length, take, drop, length-drop}
-use lib.Seq.{drop-drop, length-take-le}
+use lib.ListN.{length, take, drop}
+use lib.Seq.{length-take-le}
 use borrow.Author.Tests.{lt-ltb, le-ltb}
 use Rattle.scan.specs.Pieces.{firstAt, fieldsOf}
-use Rattle.scan.specs.Fields.{none, taken, unread, onField, matched}
-use Rattle.scan.specs.Held.{held, heldZ, heldNumbers, heldField, heldFields}
+use Rattle.scan.specs.Fields.{none, before, taken, unread, onField, matched}
+use Rattle.scan.specs.Held.{held, heldZ, heldNumbers, heldValue, heldField, heldFields}
 use Rattle.scan.specs.declared.holding.Numbers.{Numbers}
+use Rattle.scan.specs.declared.holding.Value.{Value}
+use Rattle.scan.specs.declared.holding.Value.the-variants.{Word, Unsigned, Signed}
 use Rattle.scan.specs.declared.fields.Kind.the-variants.{Misspelt, Missing, Extra}
+use Rattle.scan.specs.declared.fields.Fault.{Fault}
 use Rattle.scan.specs.declared.fields.Field.{Field}
 use Rattle.scan.specs.declared.fields.Field.the-variants.{Taken, NotTaken}
 use Rattle.scan.specs.declared.fields.Fields.{Fields}
-use Rattle.scan.specs.declared.fields.Fields.the-variants.{Read}
-use Rattle.scan.proofs.PieceLaws.{first-le, fields-cut, fields-one}
-use Rattle.scan.proofs.FieldLaws.{held-twice, taken-held, alike-field}
+use Rattle.scan.specs.declared.fields.Fields.the-variants.{Read, Unread}
+use Rattle.scan.proofs.PieceLaws.{first-le, fields-cut, fields-one, rest-long}
 
--- ---- numbers that are held alike: what follows a field goes by what is held of it
+-- fields are held each by itself
+held-before : (v : Value) (ns : Numbers) → heldNumbers (before v ns) ≡ before (heldValue v) (heldNumbers ns)
+unfolding before heldValue
+held-before Word ns = refl
+held-before (Unsigned v) ns = refl
+held-before (Signed z) ns = refl
 
-on-alike : (f g : Field) (go : Numbers → Fields) (bad : Fields) → heldField f ≡ heldField g
-    → ((a b : Numbers) → heldNumbers a ≡ heldNumbers b → heldFields (go a) ≡ heldFields (go b)) → heldFields (onField f go bad) ≡ heldFields (onField g go bad)
-unfolding onField heldField
-on-alike (Taken a) (Taken b) go bad e h = h a b (cc)
-on-alike (Taken a) NotTaken go bad e h = cc
-on-alike NotTaken (Taken b) go bad e h = cc
-on-alike NotTaken NotTaken go bad e h = refl
-
-alike-fields : (ps : List (List ℕ)) (c : ℕ) (fs : List (List ℕ)) (a b : Numbers) → heldNumbers a ≡ heldNumbers b → heldFields (matched ps c fs a) ≡ heldFields (matched ps c fs b)
-unfolding matched heldFields
-alike-fields [] c [] a b e = ap Read e
-alike-fields [] c (f ∷ fs) a b e = refl
-alike-fields (p ∷ ps) c [] a b e = refl
-alike-fields (p ∷ ps) c (f ∷ fs) a b e = both (taken p f a) (taken p f b) (alike-field p f a b e) (alike-fields ps (c + (length f + 1)) fs)
-  where
-    both : (x y : Field) → heldField x ≡ heldField y → ((a b : Numbers) → heldNumbers a ≡ heldNumbers b → heldFields (matched ps (c + (length f + 1)) fs a) ≡ heldFields (matched ps (c + (length f + 1)) fs b))
-        → heldFields (onField x (λ more. matched ps (c + (length f + 1)) fs more) (unread Misspelt c)) ≡ heldFields (onField y (λ more. matched ps (c + (length f + 1)) fs more) (unread Misspelt c))
-    both x y q ih = on-alike x y _ _ q ih
+held-on : (f : Field) (c : ℕ) (later : Fields) → heldFields (onField f c later) ≡ onField (heldField f) c (heldFields later)
+unfolding onField heldField heldFields
+held-on (Taken v) c (Read ns) = ap Read (held-before v ns)
+held-on (Taken v) c (Unread f) = refl
+held-on NotTaken c later = refl
 
 -- ---- one field of a line
 
@@ -58,75 +52,64 @@ fields-first s e p = ⊎-elim one more (eq-or-lt-of-le (first-le 32 s))
     more : firstAt 32 s < length s → fieldsOf s ≡ take e s ∷ later s e
     more q = let h : e < length s = omega arith in rw (lt-ltb e (length s) h) (fields-cut s e p h)
 
--- what holds where i bytes of the form and j of the line are read, with the numbers ns
-pub record Matching (form s : List ℕ) (ns : Numbers) (i j : ℕ) : Type 0 where
-  pub form-in : i ≤ length form
-  pub line-in : j ≤ length s
-  pub kept : heldNumbers ns ≡ ns
-  pub same : heldFields (matched (fieldsOf form) 1 (fieldsOf s) none) ≡ heldFields (matched (fieldsOf (drop i form)) (j + 1) (fieldsOf (drop j s)) ns)
+-- what is left after a field
+pub form-shorter : (form p : List ℕ) (d t : ℕ) → length form ≡ t → p ≡ drop (d + 1) form → d < length form → length p < t
+form-shorter form p d t n e h = omega (arith, rest-long form p (d + 1) e)
 
--- what is known where a field f of the form and of the line is read: they end at d and e of what is left, p and t
-pub record Step (form s : List ℕ) (ns : Numbers) (i j : ℕ) (p t : List ℕ) (d e : ℕ) (f : Field) : Type 0 where
-  pub matching : Matching form s ns i j
-  pub form-rest : p ≡ drop i form
-  pub line-rest : t ≡ drop j s
-  pub form-end : d ≡ firstAt 32 p
-  pub line-end : e ≡ firstAt 32 t
-  pub in-line : e ≤ length t
+pub line-shorter : (s t : List ℕ) (c e : ℕ) → c + length s < 2 ^ 64 → t ≡ drop (e + 1) s → e < length s → c + e + 1 + length t < 2 ^ 64
+line-shorter s t c e h d k = omega (arith, rest-long s t (e + 1) d)
+
+-- what is known where the first field f of the form and of the line s is read: they end at d and e
+pub record First (form s : List ℕ) (d e : ℕ) (f : Field) : Type 0 where
+  pub form-end : d ≡ firstAt 32 form
+  pub line-end : e ≡ firstAt 32 s
+  pub in-line : e ≤ length s
   pub word : List ℕ
-  pub form-field : word ≡ take d p
+  pub form-field : word ≡ take d form
   pub field : List ℕ
-  pub line-field : field ≡ take e t
-  pub same-field : f ≡ heldField (taken word field ns)
+  pub line-field : field ≡ take e s
+  pub same-field : f ≡ heldField (taken word field)
 
-module _ (form s : List ℕ) (ns : Numbers) (i j : ℕ) (p t : List ℕ) (d e : ℕ) (f : Field) (g : Step form s ns i j p t d e f) where
-  step : heldFields (matched (fieldsOf form) 1 (fieldsOf s) none)
-      ≡ heldFields (onField f (λ more. matched (later p d) (j + 1 + (e + 1)) (later t e) more) (unread Misspelt (j + 1)))
+module _ (form s : List ℕ) (c d e : ℕ) (f : Field) (g : First form s d e f) where
+  step : heldFields (matched (fieldsOf form) c (fieldsOf s)) ≡ onField f c (heldFields (matched (later form d) (c + (e + 1)) (later s e)))
   unfolding matched
   step =
-      let long : length (take e t) ≡ e = length-take-le e t (g .in-line) in
-      g .matching .same
-      ∙ rw (← g .form-rest, ← g .line-rest, fields-first p d (g .form-end), fields-first t e (g .line-end), ← g .form-field, long, ← g .line-field)
-      (on-alike (taken (g .word) (g .field) ns) f _ _ (sym (ap heldField (g .same-field) ∙ held-twice (taken (g .word) (g .field) ns))) (alike-fields (later p d) (j + 1 + (e + 1)) (later t e)))
+      let long : length (take e s) ≡ e = length-take-le e s (g .in-line) in
+      rw (fields-first form d (g .form-end), fields-first s e (g .line-end), g .same-field, g .form-field, g .line-field)
+      (held-on (taken (take d form) (take e s)) c _ ∙ rw long)
 
-  pub field-bad : f ≡ NotTaken → unread Misspelt (j + 1) ≡ heldFields (matched (fieldsOf form) 1 (fieldsOf s) none)
-  unfolding onField heldFields
+  pub field-bad : f ≡ NotTaken → unread Misspelt c ≡ heldFields (matched (fieldsOf form) c (fieldsOf s))
+  unfolding onField
   field-bad q = sym (step ∙ rw q)
 
-  module _ (more : Numbers) (q : f ≡ Taken more) where
-    more-held : heldNumbers more ≡ more
-    more-held = taken-held f more (rw (g .same-field) (held-twice (taken (g .word) (g .field) ns))) q
+  module _ (v : Value) (q : f ≡ Taken v) where
+    pub field-last : length form ≤ d → length s ≤ e → Read (before v none) ≡ heldFields (matched (fieldsOf form) c (fieldsOf s))
+    unfolding onField matched heldFields held heldZ
+    field-last h k = sym (step ∙ rw (q, le-ltb _ _ h, le-ltb _ _ k))
 
-    pub field-last : length p ≤ d → length t ≤ e → Read more ≡ heldFields (matched (fieldsOf form) 1 (fieldsOf s) none)
-    unfolding onField matched heldFields
-    field-last h k = ap Read (sym more-held) ∙ sym (step ∙ rw (q, le-ltb _ _ h, le-ltb _ _ k))
-
-    pub field-extra : length p ≤ d → e < length t → unread Extra (j + e + 2) ≡ heldFields (matched (fieldsOf form) 1 (fieldsOf s) none)
+    pub field-extra : length form ≤ d → e < length s → unread Extra (c + e + 1) ≡ heldFields (matched (fieldsOf form) c (fieldsOf s))
     unfolding onField matched heldFields
     field-extra h k =
-        let c : j + 1 + (e + 1) ≡ j + e + 2 = omega arith in
-        sym (step ∙ rw (q, le-ltb _ _ h, lt-ltb _ _ k, fields-first (drop (e + 1) t) (firstAt 32 (drop (e + 1) t)) refl, c))
+        let a : c + (e + 1) ≡ c + e + 1 = omega arith in
+        sym (step ∙ rw (q, le-ltb _ _ h, lt-ltb _ _ k, fields-first (drop (e + 1) s) (firstAt 32 (drop (e + 1) s)) refl, a))
 
-    pub field-missing : d < length p → length t ≤ e → unread Missing (j + e + 1) ≡ heldFields (matched (fieldsOf form) 1 (fieldsOf s) none)
+    pub field-missing : d < length form → length s ≤ e → unread Missing (c + e) ≡ heldFields (matched (fieldsOf form) c (fieldsOf s))
     unfolding onField matched heldFields
     field-missing h k =
-        let c : (j + 1 + (e + 1)) - 1 ≡ j + e + 1 = omega arith in
-        sym (step ∙ rw (q, lt-ltb _ _ h, le-ltb _ _ k, fields-first (drop (d + 1) p) (firstAt 32 (drop (d + 1) p)) refl, c))
+        let a : (c + (e + 1)) - 1 ≡ c + e = omega arith in
+        sym (step ∙ rw (q, lt-ltb _ _ h, le-ltb _ _ k, fields-first (drop (d + 1) form) (firstAt 32 (drop (d + 1) form)) refl, a))
 
-    pub field-more : d < length p → e < length t → Matching form s more (i + d + 1) (j + e + 1)
-    unfolding onField
-    field-more h k =
-        let a : i + (d + 1) ≡ i + d + 1 = omega arith in
-        let b : j + (e + 1) ≡ j + e + 1 = omega arith in
-        let c : j + 1 + (e + 1) ≡ j + e + 1 + 1 = omega arith in
-        record {
-          form-in = omega (arith, rw (g .form-rest, length-drop) at h);
-          line-in = omega (arith, rw (g .line-rest, length-drop) at k);
-          kept = more-held;
-          same = step ∙ rw (q, lt-ltb _ _ h, lt-ltb _ _ k, g .form-rest, g .line-rest, drop-drop (d + 1) i form, drop-drop (e + 1) j s, a, b, c);
-        }
+    module _ (h : d < length form) (k : e < length s) (p t : List ℕ) (ep : p ≡ drop (d + 1) form) (et : t ≡ drop (e + 1) s) (r : Fields)
+        (er : r ≡ heldFields (matched (fieldsOf p) (c + e + 1) (fieldsOf t))) where
+      more : heldFields (matched (fieldsOf form) c (fieldsOf s)) ≡ onField (Taken v) c r
+      more =
+          let a : c + (e + 1) ≡ c + e + 1 = omega arith in
+          step ∙ rw (q, lt-ltb _ _ h, lt-ltb _ _ k, er, ep, et, a)
 
--- nothing is read yet
-pub matching-start : (form s : List ℕ) (ns : Numbers) → ns ≡ none → Matching form s ns 0 0
-unfolding held heldZ
-matching-start form s ns e = rw e (record { form-in = omega arith; line-in = omega arith; kept = refl; same = refl })
+      pub later-bad : (x : Fault) → r ≡ Unread x → r ≡ heldFields (matched (fieldsOf form) c (fieldsOf s))
+      unfolding onField
+      later-bad x b = sym (more ∙ rw b)
+
+      pub later-read : (ns : Numbers) → r ≡ Read ns → Read (before v ns) ≡ heldFields (matched (fieldsOf form) c (fieldsOf s))
+      unfolding onField
+      later-read ns b = sym (more ∙ rw b)

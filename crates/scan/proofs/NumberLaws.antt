@@ -1,21 +1,17 @@
--- Laws of digits, of numbers as they are held, and of signs. Assumes nothing.
-use mathlib.Core.Path.{_≡_, refl, ap}
+-- Laws of digits, of numbers as they are held, and of signs.
+use mathlib.Core.Path.{_≡_, refl}
 use mathlib.Core.List.{List, [], _∷_}
 use mathlib.Core.Bool.{Bool, true, false, cond, _&&_}
 use Prim.Native.Nat.{ℕ, zero, suc, _+_, _-_, _*_, _≤_, _<_, min}
 use native.Mathlib.Omega.{arith}
-use lib.IntN.{ℤ, pos, negsuc, negℤ, _-ℤ_, +ℤ-idl}
-use lib.Signed.{ltZ}
-use lib.Dec.{leb}
+use lib.Dec.{eqb, leb}
 use lib.ListN.{length, getD, drop, drop-of-length-le}
-use mir.Syntax.{w32, w64}
-use mir.Val.{SFits, toZ}
-use mir.Facts.{toZ-pos}
-use borrow.Author.Tests.{ltb-true, ltb-false, eq-eqb, ne-eqb, le-leb, lt-leb}
+use borrow.Author.Tests.{eq-eqb, ne-eqb, le-leb, lt-leb}
 use Rattle.scan.specs.Numbers.{valueFrom, naturalOf, integerOf, plain, negated}
-use Rattle.scan.specs.Held.{heldZ, heldNatural, heldInteger}
+use Rattle.scan.specs.Held.{heldNatural, heldInteger}
 use Rattle.scan.specs.declared.numbers.Natural.{Natural}
 use Rattle.scan.specs.declared.numbers.Natural.the-variants.{Number, NoNumber}
+use Rattle.scan.specs.declared.numbers.Integer.the-variants.{Minus}
 use Rattle.scan.proofs.PieceLaws.{at-cons}
 
 -- ---- digits
@@ -48,27 +44,7 @@ held-alike (b ∷ t) x y e =
     by-digit (leb 48 b && leb b 57) (valueFrom (10 * x + (b - 48)) t) (valueFrom (10 * y + (b - 48)) t)
     (held-alike t (10 * x + (b - 48)) (10 * y + (b - 48)) (omega arith))
 
--- a number that is held stays as it is, and is 10,000,000,000 at most
-pub held-again : (n m : Natural) → n ≡ heldNatural m → heldNatural n ≡ n
-unfolding heldNatural
-held-again n (Number v) e = rw e (ap Number (omega arith))
-held-again n NoNumber e = rw e
-
-pub held-most : (n : Natural) (v : ℕ) → heldNatural n ≡ n → n ≡ Number v → v ≤ 10000000000
-unfolding heldNatural
-held-most n v h e =
-    let q = rw e at h in
-    let p : min v 10000000000 ≡ v = cc in
-    omega arith
-
 -- ---- signs
-
-pub minus-read : (v : ℕ) → v ≤ 10000000000 → pos 0 -ℤ toZ w64 v ≡ negℤ (pos v)
-minus-read v h = rw (toZ-pos w64 {n = v} (omega arith)) (+ℤ-idl (negℤ (pos v)))
-
-pub minus-fits : (v : ℕ) → v ≤ 10000000000 → SFits w64 (negℤ (pos v))
-minus-fits zero h = record { sfits = omega arith }
-minus-fits (suc n) h = record { sfits = omega arith }
 
 -- the sign of a number that is held
 held-plain : (n : Natural) → plain (heldNatural n) ≡ heldInteger (plain n)
@@ -79,31 +55,8 @@ held-plain NoNumber = refl
 held-negated : (n : Natural) → negated (heldNatural n) ≡ heldInteger (negated n)
 unfolding negated heldNatural heldInteger
 held-negated (Number zero) = refl
-held-negated (Number (suc u)) =
-    let e : min (suc u) 10000000000 ≡ suc (min u 9999999999) = omega arith in
-    rw (e, ne-eqb (suc (min u 9999999999)) 0 (λ z. omega arith), ne-eqb (suc u) 0 (λ z. omega arith))
+held-negated (Number (suc u)) = rw (ne-eqb (min (suc u) 10000000000) 0 (λ z. omega arith), ne-eqb (suc u) 0 (λ z. omega arith))
 held-negated NoNumber = refl
-
--- ---- a number of 64 bits that is narrowed to 32, by the tests of its limits
-
-pub narrow-fits : (low high : ℕ) → low < 2147483648 → high < 2147483648 → (z : ℤ) → ltZ z (negsuc low) ≡ false → ltZ (pos high) z ≡ false → SFits w32 z
-narrow-fits low high l h (pos v) e f = record { sfits = omega (arith, ltb-false high v f) }
-narrow-fits low high l h (negsuc v) e f = record { sfits = omega (arith, ltb-false low v e) }
-
-pub held-low : (z : ℤ) → ltZ z (negsuc 9999999) ≡ true → negsuc 9999999 ≡ heldZ z
-unfolding heldZ
-held-low (pos v) e = cc
-held-low (negsuc v) e = ap negsuc (omega (arith, ltb-true 9999999 v e))
-
-pub held-high : (z : ℤ) → ltZ (pos 10000000) z ≡ true → pos 10000000 ≡ heldZ z
-unfolding heldZ
-held-high (pos v) e = ap pos (omega (arith, ltb-true 10000000 v e))
-held-high (negsuc v) e = cc
-
-pub held-in : (z : ℤ) → ltZ z (negsuc 9999999) ≡ false → ltZ (pos 10000000) z ≡ false → z ≡ heldZ z
-unfolding heldZ
-held-in (pos v) e f = ap pos (omega (arith, ltb-false 10000000 v f))
-held-in (negsuc v) e f = ap negsuc (omega (arith, ltb-false 9999999 v e))
 
 -- ---- a number without sign, by its first byte b
 
@@ -138,3 +91,15 @@ module _ (s : List ℕ) (b : ℕ) (e : b ≡ getD s 0 0) (n : Natural) where
   pub integer-plain : (b ≡ 45 → ⊥) → n ≡ heldNatural (naturalOf s) → plain n ≡ heldInteger (integerOf s)
   unfolding integerOf
   integer-plain h q = rw (← e, ne-eqb b 45 h, q) (held-plain (naturalOf s))
+
+-- what stands after a minus is not 0
+pub minus-some : (s : List ℕ) (v : ℕ) → heldInteger (integerOf s) ≡ Minus v → 1 ≤ v
+unfolding integerOf heldInteger negated plain
+minus-some s v e = by-test (eqb (getD s 0 0) 45) (naturalOf (drop 1 s)) (naturalOf s) e
+  where
+    by-test : (z : Bool) (a b : Natural) → heldInteger (cond z (negated a) (plain b)) ≡ Minus v → 1 ≤ v
+    by-test true (Number zero) b d = absurd (let z : _≡_ {A = ℕ} 0 1 = cc in omega arith)
+    by-test true (Number (suc u)) b d = let f = rw (ne-eqb (suc u) 0 (λ z. omega arith)) at d in let g : min (suc u) 10000000000 ≡ v = cc in omega arith
+    by-test true NoNumber b d = absurd (let z : _≡_ {A = ℕ} 0 1 = cc in omega arith)
+    by-test false a (Number u) d = absurd (let z : _≡_ {A = ℕ} 0 1 = cc in omega arith)
+    by-test false a NoNumber d = absurd (let z : _≡_ {A = ℕ} 0 1 = cc in omega arith)

@@ -1,4 +1,4 @@
--- Laws of a text's pieces, and of what the scanner sees from a position on. Assumes nothing.
+-- Laws of a text's pieces, and of what the scanner sees from a position on.
 use mathlib.Core.Path.{_≡_, refl, sym, ap, ap₂, _∙_}
 use mathlib.Core.Logic.{_⊎_, inl, inr, ⊎-elim}
 use mathlib.Core.List.{List, [], _∷_}

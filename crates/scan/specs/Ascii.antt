@@ -1,4 +1,4 @@
--- Texts in ASCII as bytes, so that a form can be written as the paper writes it. Assumes nothing: this is a definition.
+-- Texts in ASCII as bytes, so that a form can be written as the paper writes it.
 use Prim.Native.Nat.{ℕ}
 use Prim.Native.Char.{code}
 use Prim.Native.String as string

@@ -4,3 +4,4 @@ pub mod Numbers
 pub mod Fields
 pub mod Line
 pub mod Held
+pub mod Decimal

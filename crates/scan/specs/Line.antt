@@ -1,4 +1,4 @@
--- The lines of a format: comments, a problem line, data lines. Assumes nothing: these are definitions.
+-- The lines of a format: comments, a problem line, data lines.
 use Prim.Native.Nat.{ℕ}
 use Prim.Native.Char.{code}
 use mathlib.Core.List.{List, [], _∷_}
@@ -6,7 +6,7 @@ use mathlib.Core.Bool.{cond}
 use lib.Dec.{eqb}
 use lib.ListN.{length}
 use Rattle.scan.specs.Pieces.{fieldsOf, firstField, sameBytes}
-use Rattle.scan.specs.Fields.{none, matched}
+use Rattle.scan.specs.Fields.{matched}
 use Rattle.scan.specs.declared.fields.Kind.{Kind}
 use Rattle.scan.specs.declared.fields.Kind.the-variants.{EmptyLine, NoLetter}
 use Rattle.scan.specs.declared.fields.Fields.{Fields}
@@ -31,6 +31,6 @@ unfoldable pub lineOf : List ℕ → List ℕ → List ℕ → Line
 lineOf problem rows s =
     cond (eqb (length s) 0) (faulty EmptyLine)
     (cond (sameBytes (firstField s) (code "c" ∷ [])) Comment
-    (cond (sameBytes (firstField s) (firstField problem)) (problemLine (matched (fieldsOf problem) 1 (fieldsOf s) none))
-    (cond (sameBytes (firstField s) (firstField rows)) (dataLine (matched (fieldsOf rows) 1 (fieldsOf s) none))
+    (cond (sameBytes (firstField s) (firstField problem)) (problemLine (matched (fieldsOf problem) 1 (fieldsOf s)))
+    (cond (sameBytes (firstField s) (firstField rows)) (dataLine (matched (fieldsOf rows) 1 (fieldsOf s)))
     (faulty NoLetter))))

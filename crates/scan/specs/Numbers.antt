@@ -1,15 +1,14 @@
--- Decimal numbers, of any count of digits, with their true values. Assumes nothing: these are definitions.
+-- Decimal numbers, of any count of digits, with their true values.
 use Prim.Native.Nat.{ℕ, _+_, _-_, _*_}
 use Prim.Native.Char.{code}
 use mathlib.Core.List.{List, [], _∷_}
 use mathlib.Core.Bool.{Bool, cond, _&&_, _||_, not}
 use lib.Dec.{eqb, leb}
-use lib.IntN.{pos, negℤ}
 use lib.ListN.{length, drop, getD}
 use Rattle.scan.specs.declared.numbers.Natural.{Natural}
 use Rattle.scan.specs.declared.numbers.Natural.the-variants.{Number, NoNumber}
 use Rattle.scan.specs.declared.numbers.Integer.{Integer}
-use Rattle.scan.specs.declared.numbers.Integer.the-variants.{Whole, NoWhole}
+use Rattle.scan.specs.declared.numbers.Integer.the-variants.{Plain, Minus, NoInteger}
 
 abbrev pub isDigit : ℕ → Bool
 isDigit b = leb (code "0") b && leb b (code "9")
@@ -28,13 +27,13 @@ unfoldable pub naturalOf : List ℕ → Natural
 naturalOf s = cond (unpadded s) (valueFrom 0 s) NoNumber
 
 unfoldable pub plain : Natural → Integer
-plain (Number v) = Whole (pos v)
-plain NoNumber = NoWhole
+plain (Number v) = Plain v
+plain NoNumber = NoInteger
 
 -- `-0` is malformed
 unfoldable pub negated : Natural → Integer
-negated (Number v) = cond (eqb v 0) NoWhole (Whole (negℤ (pos v)))
-negated NoNumber = NoWhole
+negated (Number v) = cond (eqb v 0) NoInteger (Minus v)
+negated NoNumber = NoInteger
 
 -- a number with one leading minus, or none
 unfoldable pub integerOf : List ℕ → Integer

@@ -1,4 +1,4 @@
--- The pieces of a text: its lines, and the fields of a line. Assumes nothing: these are definitions.
+-- The pieces of a text: its lines, and the fields of a line.
 use Prim.Native.Nat.{ℕ, suc}
 use Prim.Native.Char.{code}
 use mathlib.Core.List.{List, [], _∷_}

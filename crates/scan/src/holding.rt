@@ -1,10 +1,10 @@
 // The numbers that a line of a format holds.
 ghost use mathlib.Core.Path.{_≡_};
-ghost use Prim.Native.Nat.{min};
-ghost use Rattle.scan.specs.Fields.{none, oneNatural, oneInteger};
-ghost use Rattle.scan.specs.Held.{heldZ};
+ghost use Rattle.scan.specs.Fields.{none, before};
+ghost use Rattle.scan.specs.Held.{held};
 
-// The numbers of a line, the last three without sign and the last two that may have a minus; 0 where there are fewer.
+// The numbers of a line in the order in which they stand on it: first, second and third are those without sign,
+// x and y those that may have a minus; 0 where there are fewer.
 // What is beyond 10,000,000 is held as 10,000,000: every limit of a format is far below.
 pub struct Numbers {
     pub first: u32,
@@ -14,7 +14,14 @@ pub struct Numbers {
     pub y: i32,
 }
 
-// No number yet.
+// What a field holds: a word of its form, or a number.
+pub enum Value {
+    Word,
+    Unsigned(u32),
+    Signed(i32),
+}
+
+// No number.
 pub fn no_numbers() -> Numbers
     ensures { λ r. ⌜ r ≡ none ⌝ }
 {
@@ -27,9 +34,9 @@ pub fn no_numbers() -> Numbers
     }
 }
 
-// A number without sign, as a line holds it.
-pub fn hold_natural(v: u64) -> u32
-    ensures { λ r. ⌜ r ≡ min v 10000000 ⌝ }
+// A number as a line holds it.
+pub fn hold(v: u64) -> u32
+    ensures { λ r. ⌜ r ≡ held v ⌝ }
 {
     if 10000000 < v {
         return 10000000;
@@ -37,41 +44,25 @@ pub fn hold_natural(v: u64) -> u32
     v as u32
 }
 
-// A number that may have a minus, as a line holds it.
-pub fn hold_integer(z: i64) -> i32
-    ensures { λ r. ⌜ r ≡ heldZ z ⌝ }
+// The value before the numbers of the fields after it.
+pub fn put_before(value: Value, ns: Numbers) -> Numbers
+    ensures { λ r. ⌜ r ≡ before value ns ⌝ }
 {
-    if z < -10000000 {
-        return -10000000;
-    }
-    if 10000000 < z {
-        return 10000000;
-    }
-    z as i32
-}
-
-// One number more, without sign.
-pub fn add_natural(ns: Numbers, v: u32) -> Numbers
-    ensures { λ r. ⌜ r ≡ oneNatural ns v ⌝ }
-{
-    Numbers {
-        first: ns.second,
-        second: ns.third,
-        third: v,
-        x: ns.x,
-        y: ns.y,
-    }
-}
-
-// One number more, that may have a minus.
-pub fn add_integer(ns: Numbers, z: i32) -> Numbers
-    ensures { λ r. ⌜ r ≡ oneInteger ns z ⌝ }
-{
-    Numbers {
-        first: ns.first,
-        second: ns.second,
-        third: ns.third,
-        x: ns.y,
-        y: z,
+    match value {
+        Value::Word => ns,
+        Value::Unsigned(v) => Numbers {
+            first: v,
+            second: ns.first,
+            third: ns.second,
+            x: ns.x,
+            y: ns.y,
+        },
+        Value::Signed(z) => Numbers {
+            first: ns.first,
+            second: ns.second,
+            third: ns.third,
+            x: z,
+            y: ns.x,
+        },
     }
 }

@@ -12,10 +12,11 @@ pub enum Natural {
     NoNumber,
 }
 
-// What a field that may have a minus spells.
+// What a field that may have a minus spells: a number without it, or after it.
 pub enum Integer {
-    Whole(i64),
-    NoWhole,
+    Plain(u64),
+    Minus(u64),
+    NoInteger,
 }
 
 // A digit more.
@@ -66,27 +67,25 @@ pub fn read_natural(s: &[u8]) -> Natural
 
 // What n spells with no minus before it.
 fn without_minus(n: Natural) -> Integer
-    requires { ⌜ heldNatural n ≡ n ⌝ }
     ensures { λ r. ⌜ r ≡ plain n ⌝ }
 {
     let Natural::Number(v) = n else {
-        return Integer::NoWhole;
+        return Integer::NoInteger;
     };
-    Integer::Whole(v as i64)
+    Integer::Plain(v)
 }
 
 // What n spells after a minus; `-0` is malformed.
 fn with_minus(n: Natural) -> Integer
-    requires { ⌜ heldNatural n ≡ n ⌝ }
     ensures { λ r. ⌜ r ≡ negated n ⌝ }
 {
     let Natural::Number(v) = n else {
-        return Integer::NoWhole;
+        return Integer::NoInteger;
     };
     if v == 0 {
-        return Integer::NoWhole;
+        return Integer::NoInteger;
     }
-    Integer::Whole(-(v as i64))
+    Integer::Minus(v)
 }
 
 // A number with one leading minus or none.

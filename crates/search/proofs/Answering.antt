@@ -1,4 +1,4 @@
--- What the search by labels gives is an answer. Assumes nothing.
+-- What the search by labels gives is an answer.
 use Prim.Native.Nat.{ℕ, _+_, _≤_}
 use native.Mathlib.Omega.{arith}
 use mathlib.Core.Path.{_≡_}
@@ -9,14 +9,14 @@ use lib.ListN.{length}
 use Rattle.rules.specs.declared.Refusal.the-variants.{NoWalk}
 use Rattle.walks.specs.Walk.{Net, kept}
 use Rattle.walks.specs.Rows.{Rows, Sound, network}
-use Rattle.walks.specs.Count.{count-most}
+use Rattle.walks.proofs.CountLaws.{count-most}
 use Rattle.walks.specs.Settled as counts
 use Rattle.settling.specs.declared.Outcome.{Outcome}
 use Rattle.settling.specs.Labels.{lengthOf, arcsOf}
 use Rattle.settling.specs.Run.{searchOf}
 use Rattle.settling.specs.Trace.{traceOf}
-use Rattle.settling.specs.Choice.{either}
-use Rattle.settling.specs.Right.{search-found, search-missed}
+use Rattle.settling.proofs.Choice.{either}
+use Rattle.settling.proofs.SearchIsRight.{search-found, search-missed}
 use Rattle.search.specs.declared.Answer.the-variants.{Found, Refused}
 use Rattle.search.specs.Paper.{paper}
 use Rattle.search.specs.Says.{Answers, found, none}

@@ -1,2 +1,7 @@
-pub mod Turns
 pub mod Answering
+pub mod PaperLaws
+pub mod SaysLaws
+pub mod Alike
+pub mod Networks
+pub mod Cut
+pub mod Surplus

@@ -1,10 +1,3 @@
--- What the searches say, and that it leaves one reply and one row. What a reader must believe: Judge, Paper, Says.
-pub mod Judge
-pub mod JudgeLaws
+-- What the searches say.
 pub mod Paper
 pub mod Says
-pub mod SaysLaws
-pub mod Alike
-pub mod Networks
-pub mod Cut
-pub mod Surplus

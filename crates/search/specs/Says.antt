@@ -1,4 +1,4 @@
--- What a search says: the one relation between what is lent, the reply and the route row afterwards. Assumes nothing.
+-- What a search says: the one relation between what is lent, the reply and the route row afterwards.
 use Prim.Native.Nat.{ℕ}
 use mathlib.Core.Path.{_≡_}
 use mathlib.Core.List.{List, [], _∷_, _++_}
@@ -14,7 +14,7 @@ use Rattle.geometry.specs.Row.{boxOf, coordinate}
 use Rattle.walks.specs.Walk.{Net, only}
 use Rattle.walks.specs.Rows.{Rows, network}
 use Rattle.walks.specs.Search.{Found, NoWalk}
-use Rattle.search.specs.Judge.{searchJudged, boxedJudged}
+use Rattle.judging.specs.Order.{searchJudged, boxedJudged}
 
 -- The answer for a network of n nodes. Found: the length d, the arc count k and the settled count c, and the route's arcs,
 -- source first, in the row's first places; the places after it keep their contents. Else 12 with the settled count.

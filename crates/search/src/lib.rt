@@ -7,7 +7,6 @@ use rules::Refusal;
 use settling::Toward;
 
 mod find;
-pub mod judge;
 
 // What a search answers: the route's length, its arc count and the settled count, or why it was refused.
 pub enum Answer {
@@ -32,7 +31,7 @@ pub fn search(
 ) -> Answer
     ensures { λ r. ⌜ SearchSays n m (rows (now (tails .entry)) (now (heads .entry)) (now (weights .entry))) s t (now (route .entry)) (paper r) (now (route .exit)) ⌝ }
 {
-    let j = judge::judge_search(n, m, tails, heads, weights, s, t, route.len());
+    let j = judging::judge_search(n, m, tails, heads, weights, s, t, route.len());
     let Judged::Refused(r) = j else {
         // of no arc is a box asked
         let boxes = [0i32; 1];
@@ -68,7 +67,7 @@ pub fn search_boxed(
 ) -> Answer
     ensures { λ r. ⌜ BoxedSays n m (rows (now (tails .entry)) (now (heads .entry)) (now (weights .entry))) (now (x .entry)) (now (y .entry)) (now (boxes .entry)) s t (now (route .entry)) (paper r) (now (route .exit)) ⌝ }
 {
-    let j = judge::judge_boxed(n, m, tails, heads, weights, x, y, boxes, s, t, route.len());
+    let j = judging::judge_boxed(n, m, tails, heads, weights, x, y, boxes, s, t, route.len());
     let Judged::Refused(r) = j else {
         let at = t as usize - 1;
         return find::find(

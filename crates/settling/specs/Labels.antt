@@ -1,11 +1,15 @@
 -- The labels of a search: how they begin, and how a node is labelled, offered a label, or marked as settled.
 -- Node v's entries stand at v - 1. A label is a length and an arc count, ordered by length first and then by arc count.
--- Assumes nothing.
 use Prim.Native.Nat.{ℕ, _-_}
 use mathlib.Core.Bool.{Bool, true, false, cond}
+use mathlib.Core.List.{List}
 use lib.ListN.{getD, set, replicate}
 use lib.Dec.{ltb, eqb}
 use Rattle.settling.specs.declared.Labels.{Labels}
+
+-- the labels of three rows
+abbrev pub labels : List ℕ → List ℕ → List Bool → Labels
+labels length arcs settled = record { length = length; arcs = arcs; settled = settled }
 
 -- the length of a node that has no label
 abbrev pub none : ℕ

@@ -1,21 +1,12 @@
--- What the code of `settling` computes, step by step, and why that answers a search.
-pub mod Choice
+-- What the code of `settling` computes, step by step, and what its inner steps know.
 pub mod Toward
 pub mod Labels
-pub mod LabelsLaws
 pub mod Settle
-pub mod SettleLaws
 pub mod Nearest
-pub mod NearestLaws
 pub mod Run
-pub mod RunLaws
 pub mod Trace
-pub mod TraceLaws
-pub mod Seen
-pub mod NearestIs
-pub mod SeenLaws
-pub mod SettleIs
-pub mod RunIs
-pub mod TraceIs
-pub mod Right
 pub mod LengthsTo
+pub mod Seen
+pub mod Stage
+pub mod Front
+pub mod Step

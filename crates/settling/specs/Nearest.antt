@@ -1,12 +1,11 @@
 -- The node to be settled next: of the labelled nodes not settled, the one whose label comes first, the lower number of two alike.
--- Assumes nothing.
 use Prim.Native.Nat.{ℕ, zero, suc, _+_}
 use mathlib.Core.Bool.{false, not, cond, _&&_}
 use lib.ListN.{getD}
 use lib.Dec.{eqb}
 use Rattle.settling.specs.declared.Labels.{Labels}
-use Rattle.settling.specs.declared.Pick.{Pick}
-use Rattle.settling.specs.declared.Pick.the-variants.{Node, Nothing}
+use Rattle.frontier.specs.declared.Pick.{Pick}
+use Rattle.frontier.specs.declared.Pick.the-variants.{Node, Nothing}
 use Rattle.settling.specs.Labels.{none, before}
 
 -- the first so far, with its label; node 0 stands for none

@@ -1,11 +1,11 @@
--- The run: the next node is settled, again and again, until it is the target or none is left. Assumes nothing.
+-- The run: the next node is settled, again and again, until it is the target or none is left.
 use Prim.Native.Nat.{ℕ, zero, suc, _+_}
 use mathlib.Core.Bool.{Bool, true, false, cond}
 use lib.Dec.{eqb}
 use Rattle.walks.specs.Rows.{Rows}
 use Rattle.settling.specs.declared.Labels.{Labels}
-use Rattle.settling.specs.declared.Pick.{Pick}
-use Rattle.settling.specs.declared.Pick.the-variants.{Node, Nothing}
+use Rattle.frontier.specs.declared.Pick.{Pick}
+use Rattle.frontier.specs.declared.Pick.the-variants.{Node, Nothing}
 use Rattle.settling.specs.declared.Outcome.{Outcome}
 use Rattle.settling.specs.Labels.{startOf}
 use Rattle.settling.specs.Settle.{settleOf}

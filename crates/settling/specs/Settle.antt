@@ -1,4 +1,4 @@
--- Settling a node u: it is marked, and each arc out of it that may be used offers its head a label. Assumes nothing.
+-- Settling a node u: it is marked, and each arc out of it that may be used offers its head a label.
 use Prim.Native.Nat.{ℕ, zero, suc, _+_}
 use mathlib.Core.Bool.{Bool, cond, _&&_}
 use lib.ListN.{getD}

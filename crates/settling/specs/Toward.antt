@@ -1,12 +1,13 @@
--- Which arcs a search may use, and what it is lent. Assumes nothing.
+-- Which arcs a search may use, and what it is asked.
 use Prim.Native.Nat.{ℕ, _*_, _≤_}
-use native.Mathlib.Omega.{arith}
 use mathlib.Core.Bool.{Bool, true}
 use mathlib.Core.List.{List}
 use lib.IntN.{ℤ}
 use lib.ListN.{length}
 use Rattle.geometry.specs.Box.{holdsB}
 use Rattle.geometry.specs.Row.{boxOf}
+use Rattle.walks.specs.Rows.{Rows, Sound}
+use Rattle.settling.specs.declared.Task.{Task}
 use Rattle.settling.specs.declared.Toward.{Toward}
 use Rattle.settling.specs.declared.Toward.the-variants.{Anywhere, Place}
 
@@ -20,9 +21,9 @@ abbrev pub Room : Toward → ℕ → List ℤ → Type 0
 Room Anywhere m boxes = Unit
 Room (Place x y) m boxes = 4 * m ≤ length boxes
 
--- ---- Law
-
--- a row that holds the boxes of m arcs holds that of each
-pub room-less : (toward : Toward) (boxes : List ℤ) (m e : ℕ) → e ≤ m → Room toward m boxes → Room toward e boxes
-room-less Anywhere boxes m e h r = tt
-room-less (Place x y) boxes m e h r = omega arith
+-- a task is well posed: its source is a node, and the rows hold its network and the boxes that are asked
+pub record Posed (a : Task) (R : Rows) (boxes : List ℤ) : Type 0 where
+  pub source-low : 1 ≤ a .s
+  pub source-high : a .s ≤ a .n
+  pub sound : Sound (a .n) (a .m) R
+  pub room : Room (a .toward) (a .m) boxes

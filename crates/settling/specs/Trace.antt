@@ -1,4 +1,4 @@
--- The route, traced back from the target by the labels. Assumes nothing.
+-- The route, traced back from the target by the labels.
 use Prim.Native.Nat.{ℕ, zero, suc, _+_}
 use mathlib.Core.Bool.{Bool, false, cond, _&&_}
 use mathlib.Core.List.{List}

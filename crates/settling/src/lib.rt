@@ -3,7 +3,8 @@ ghost use mathlib.Core.Path.{_≡_};
 ghost use Prim.Native.Nat.{_≤_};
 ghost use Rattle.settling.specs.Toward.{Room, keeps};
 
-mod nearest;
+mod label;
+mod relax;
 pub mod run;
 mod settle;
 pub mod trace;
@@ -15,17 +16,19 @@ pub struct Labels {
     pub settled: [bool; 512],
 }
 
-// The node to be settled next, or that none is left.
-pub enum Pick {
-    Node(usize),
-    Nothing,
-}
-
 // What a run ends with: the labels, how many nodes it settled (its target counted), and whether it found its target.
 pub struct Outcome {
     pub labels: Labels,
     pub count: usize,
     pub found: bool,
+}
+
+// What a step of the run ends with. If it is over, this is the run's outcome; if not, the run goes on from here.
+pub struct Stride {
+    pub labels: Labels,
+    pub count: usize,
+    pub found: bool,
+    pub over: bool,
 }
 
 // The arc by which a node has its label, or that there is none.
@@ -38,6 +41,15 @@ pub enum Into {
 pub enum Toward {
     Anywhere,
     Place(i32, i32),
+}
+
+// What a run is asked: from node s to node t, in a network of n nodes and m arcs, by the arcs that may be used.
+pub struct Task {
+    pub s: usize,
+    pub t: usize,
+    pub n: usize,
+    pub m: usize,
+    pub toward: Toward,
 }
 
 // Whether a search may use arc `e`.

@@ -1,17 +1,74 @@
-// The run: node after node is settled.
+// The run: step after step, nodes are settled.
 ghost use mathlib.Core.Path.{_≡_};
 ghost use Prim.Native.Nat.{_≤_};
+ghost use Rattle.frontier.specs.Chain.{Chained};
 ghost use Rattle.walks.specs.Rows.{rows, Sound};
 ghost use mathlib.Core.Bool.{true};
 ghost use Rattle.settling.specs.Run.{searchOf, labelsOf};
-ghost use Rattle.settling.specs.Toward.{Room, keeps};
+ghost use Rattle.settling.specs.Toward.{Room, Posed, keeps};
+ghost use Rattle.settling.specs.Step.{outcomeOf};
 use crate::Labels;
 use crate::Outcome;
-use crate::Pick;
+use crate::Stride;
+use crate::Task;
 use crate::Toward;
-use crate::nearest::nearest;
+use crate::label::start;
 use crate::settle::settle;
-use crate::settle::start;
+use frontier::chain::link;
+use frontier::tree::FAR;
+use frontier::tree::key;
+use frontier::tree::put;
+
+// How many nodes a search settles in a step: the labels are copied for each.
+const STEP: usize = 16;
+
+// The run that a task asks, with so many nodes a step, along the arcs chained by their tails.
+fn run_by(
+    rounds: usize,
+    task: Task,
+    tails: &[u32],
+    heads: &[u32],
+    weights: &[u32],
+    first: &[u32; 512],
+    next: &[u32; 2048],
+    boxes: &[i32],
+) -> Outcome
+    requires { let R = rows (now tails) (now heads) (now weights) in
+        ⌜ (1 ≤ rounds) × (rounds ≤ 513) × Posed task R (now boxes) × Chained (task .m) (now tails) (now first) (now next) ⌝ }
+    ensures { λ r.
+        let R = rows (now (tails .entry)) (now (heads .entry)) (now (weights .entry)) in
+        ⌜ r ≡ outcomeOf R (now (boxes .entry)) task ⌝ }
+{
+    let mut tree = [FAR; 1024];
+    put(&mut tree, task.s - 1, key(0, 0, task.s - 1));
+    let mut r = Stride {
+        labels: start(task.s),
+        count: 0,
+        found: false,
+        over: false,
+    };
+    while !r.over {
+        r = settle(
+            r.labels,
+            r.count,
+            rounds,
+            &mut tree,
+            task,
+            tails,
+            heads,
+            weights,
+            first,
+            next,
+            boxes,
+        );
+    }
+    let labels = r.labels;
+    Outcome {
+        labels,
+        count: r.count,
+        found: r.found,
+    }
+}
 
 // Settles node after node from `s` on, until the next is the target `t` or none is left. Target 0 is never found: all
 // that can be reached is labelled.
@@ -29,35 +86,15 @@ pub fn run(
     requires { ⌜ (1 ≤ s) × (s ≤ n) × Sound n m (rows (now tails) (now heads) (now weights)) × Room toward m (now boxes) ⌝ }
     ensures { λ r. ⌜ r ≡ searchOf (rows (now (tails .entry)) (now (heads .entry)) (now (weights .entry))) (keeps toward (now (boxes .entry))) n m t s ⌝ }
 {
-    let mut labels = start(s);
-    let mut count: usize = 0;
-    while count < n {
-        let p = nearest(labels, n);
-        let Pick::Node(u) = p else {
-            return Outcome {
-                labels,
-                count,
-                found: false,
-            };
-        };
-        if u == t {
-            return Outcome {
-                labels,
-                count: count + 1,
-                found: true,
-            };
-        }
-        labels = settle(labels, u, m, tails, heads, weights, toward, boxes);
-        count += 1;
-    }
-    Outcome {
-        labels,
-        count,
-        found: false,
-    }
+    let mut first = [m as u32; 512];
+    let mut next = [0u32; 2048];
+    link(m, tails, &mut first, &mut next);
+    let task = Task { s, t, n, m, toward };
+    run_by(STEP, task, tails, heads, weights, &first, &next, boxes)
 }
 
-// The labels of all that can be reached from `s`, by any arcs. With tails and heads swapped: of all that leads to `s`.
+// The labels of all that can be reached from `s`, by any arcs, which are lent chained by their tails. With tails and heads
+// swapped: of all that leads to `s`. One step of n + 1 nodes is the whole run.
 pub fn label_all(
     s: usize,
     n: usize,
@@ -65,13 +102,21 @@ pub fn label_all(
     tails: &[u32],
     heads: &[u32],
     weights: &[u32],
+    first: &[u32; 512],
+    next: &[u32; 2048],
 ) -> Labels
-    requires { ⌜ (1 ≤ s) × (s ≤ n) × Sound n m (rows (now tails) (now heads) (now weights)) ⌝ }
+    requires { ⌜ (1 ≤ s) × (s ≤ n) × Sound n m (rows (now tails) (now heads) (now weights)) × Chained m (now tails) (now first) (now next) ⌝ }
     ensures { λ r. ⌜ r ≡ labelsOf (rows (now (tails .entry)) (now (heads .entry)) (now (weights .entry))) (λ e. true) n m s ⌝ }
 {
     // of no arc is a box asked
     let boxes = [0i32; 1];
-    let o = run(s, 0, n, m, tails, heads, weights, Toward::Anywhere, &boxes);
-    let labels = o.labels;
-    labels
+    let task = Task {
+        s,
+        t: 0,
+        n,
+        m,
+        toward: Toward::Anywhere,
+    };
+    let o = run_by(n + 1, task, tails, heads, weights, first, next, &boxes);
+    o.labels
 }

@@ -3,12 +3,15 @@ ghost use mathlib.Core.Path.{_≡_};
 ghost use Prim.Native.Nat.{_≤_};
 ghost use lib.ListN.{length};
 ghost use Rattle.walks.specs.Rows.{rows, Sound};
-ghost use Rattle.settling.specs.Labels.{arcsOf};
+ghost use mathlib.Core.List.{[]};
+ghost use Rattle.frontier.specs.Chain.{Chained};
+ghost use Rattle.settling.specs.Labels.{labels, arcsOf};
 ghost use Rattle.settling.specs.Trace.{fits, intoOf, traceOf};
 ghost use Rattle.settling.specs.Toward.{Room, keeps};
 use crate::Into;
 use crate::Labels;
 use crate::Toward;
+use frontier::chain::link;
 
 // Whether a step of weight w leads from the label (l, k) to (l2, k2).
 fn leads(l: u32, k: u32, w: u32, l2: u32, k2: u32) -> bool
@@ -20,35 +23,40 @@ fn leads(l: u32, k: u32, w: u32, l2: u32, k2: u32) -> bool
     false
 }
 
-// The lowest-numbered arc by which node `v` has its label.
+// The lowest-numbered arc by which node `v` has its label, among the arcs chained by their heads.
 fn arc_into(
-    labels: Labels,
+    length: &[u32; 512],
+    arcs: &[u32; 512],
     v: usize,
     m: usize,
     tails: &[u32],
     heads: &[u32],
     weights: &[u32],
+    first: &[u32; 512],
+    next: &[u32; 2048],
     toward: Toward,
     boxes: &[i32],
 ) -> Into
-    requires { ⌜ (1 ≤ v) × (v ≤ 512) × Sound 512 m (rows (now tails) (now heads) (now weights)) × Room toward m (now boxes) ⌝ }
-    ensures { λ r. ⌜ r ≡ intoOf (rows (now (tails .entry)) (now (heads .entry)) (now (weights .entry))) (keeps toward (now (boxes .entry))) labels v m ⌝ }
+    requires { let R = rows (now tails) (now heads) (now weights) in
+        ⌜ (1 ≤ v) × (v ≤ 512) × Sound 512 m R × Room toward m (now boxes) × Chained m (now heads) (now first) (now next) ⌝ }
+    ensures { λ r.
+        let R = rows (now (tails .entry)) (now (heads .entry)) (now (weights .entry)) in
+        let L = labels (now (length .entry)) (now (arcs .entry)) [] in
+        ⌜ r ≡ intoOf R (keeps toward (now (boxes .entry))) L v m ⌝ }
 {
-    let l = labels.length[v - 1];
-    let k = labels.arcs[v - 1];
-    let mut j: usize = 0;
+    let l = length[v - 1];
+    let k = arcs[v - 1];
+    let mut j = first[v - 1] as usize;
     while j < m {
-        if heads[j] as usize == v {
-            if crate::passes(toward, boxes, j + 1) {
-                let u = tails[j] as usize - 1;
-                let from_l = labels.length[u];
-                let from_k = labels.arcs[u];
-                if leads(from_l, from_k, weights[j], l, k) {
-                    return Into::Arc(j + 1);
-                }
+        if crate::passes(toward, boxes, j + 1) {
+            let u = tails[j] as usize - 1;
+            let from_l = length[u];
+            let from_k = arcs[u];
+            if leads(from_l, from_k, weights[j], l, k) {
+                return Into::Arc(j + 1);
             }
         }
-        j += 1;
+        j = next[j] as usize;
     }
     Into::Nothing
 }
@@ -68,11 +76,28 @@ pub fn trace(
     requires { ⌜ (1 ≤ t) × (t ≤ 512) × Sound 512 m (rows (now tails) (now heads) (now weights)) × Room toward m (now boxes) × (arcsOf labels t ≤ length (now route)) ⌝ }
     ensures { λ _. ⌜ now (route .exit) ≡ traceOf (rows (now (tails .entry)) (now (heads .entry)) (now (weights .entry))) (keeps toward (now (boxes .entry))) m labels (arcsOf labels t) t (now (route .entry)) ⌝ }
 {
+    let mut first = [m as u32; 512];
+    let mut next = [0u32; 2048];
+    link(m, heads, &mut first, &mut next);
     let count = labels.arcs[t - 1] as usize;
+    let length = labels.length;
+    let arcs = labels.arcs;
     let mut v = t;
     let mut k = count;
     while 0 < k {
-        let into = arc_into(labels, v, m, tails, heads, weights, toward, boxes);
+        let into = arc_into(
+            &length,
+            &arcs,
+            v,
+            m,
+            tails,
+            heads,
+            weights,
+            &first,
+            &next,
+            toward,
+            boxes,
+        );
         let Into::Arc(e) = into else {
             return;
         };

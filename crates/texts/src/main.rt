@@ -1,8 +1,8 @@
 // Reads the texts of data/, and prints each reply with the places that were filled, row by row.
 mod show;
 
-use files::print::count;
-use files::print::text;
+use printing::count;
+use printing::text;
 use show::coordinates_of;
 use show::graph_of;
 ghost use Rattle.io.specs.Counts.{Counts};

@@ -3,9 +3,9 @@ use dimacs::CoReply;
 use dimacs::GrReply;
 use dimacs::read_co;
 use dimacs::read_gr;
-use files::print::count;
-use files::print::number;
-use files::print::text;
+use printing::count;
+use printing::number;
+use printing::text;
 use rules::Refusal;
 
 // `refused`, the paper's number, and the line where there is one.

@@ -1,4 +1,4 @@
--- d(u,t), and the best walks of a search: least length first, then fewest arcs. Assumes nothing.
+-- d(u,t), and the best walks of a search: least length first, then fewest arcs.
 use Prim.Native.Nat.{ℕ, _≤_}
 use Rattle.walks.specs.Walk.{Net, Walk}
 

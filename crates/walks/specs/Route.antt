@@ -1,4 +1,4 @@
--- The route shown: of all best walks, the one that the tie rule picks. Assumes nothing.
+-- The route shown: of all best walks, the one that the tie rule picks.
 use mathlib.Core.Path.{_≡_}
 use mathlib.Core.List.{List, [], _∷_, _++_}
 use Prim.Native.Nat.{ℕ, _+_, _≤_}

@@ -1,4 +1,4 @@
--- What a search knows while it settles node after node. Assumes nothing.
+-- What a search knows while it settles node after node.
 use mathlib.Core.Path.{_≡_}
 use mathlib.Core.Logic.{_≢_}
 use Prim.Native.Nat.{ℕ, _+_, _≤_}

@@ -1,4 +1,4 @@
--- S(e), and tests that keep all of it. Assumes nothing.
+-- S(e), and tests that keep all of it.
 use mathlib.Core.List.{List, _∷_}
 use Prim.Native.Nat.{ℕ, _+_, _≤_}
 use Rattle.walks.specs.Walk.{Net, Walk, WalkBy}

@@ -1,4 +1,4 @@
--- Networks and walks: 01, "Lengths, ties, boxes". Assumes nothing.
+-- Networks and walks: 01, "Lengths, ties, boxes".
 use mathlib.Core.Path.{_≡_}
 use mathlib.Core.Bool.{Bool, true}
 use mathlib.Core.List.{List, [], _∷_}

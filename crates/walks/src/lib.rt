@@ -1,1 +1,1 @@
-// Walks, lengths, ties, routes, settled counts and S(e): definitions and theorems alone, all in specs/.
+// Walks, lengths, ties, routes, settled counts and S(e): definitions in specs/ and theorems in proofs/, no code.

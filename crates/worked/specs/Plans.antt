@@ -1,4 +1,4 @@
--- The plans of 01: the hall, and its other small networks. Assumes nothing.
+-- The plans of 01: the hall, and its other small networks.
 use Prim.Native.Nat.{ℕ, zero, suc}
 use mathlib.Core.List.{List, [], _∷_}
 use lib.IntN.{ℤ, pos, negsuc}

@@ -1,41 +1,25 @@
 -- The starred lines of 01, and the errors that learners bring: one table under one statement. The statement is made of the functions'
--- own relations, so that each line says what a function replies and writes. Assumes nothing.
+-- own relations, so that each line says what a function replies and writes. `table-right` in proofs/TableRight.antt proves it.
 use Prim.Native.Nat.{ℕ}
-use mathlib.Core.Path.{_≡_, refl, subst}
-use mathlib.Core.Logic.{_↔_}
-use mathlib.Core.Bool.{Bool, true, _&&_}
+use mathlib.Core.Path.{_≡_}
+use mathlib.Core.Logic.{_⊎_, _↔_}
 use mathlib.Core.List.{List, [], _∷_}
-use borrow.Author.Tests.{leb-true}
-use lib.Dec.{leb}
 use lib.IntN.{ℤ, pos, negsuc}
 use lib.ListN.{replicate}
-use Rattle.rules.specs.Paper.{accepted, refusal}
-use Rattle.rules.specs.Judging.{each}
+use Rattle.rules.specs.Paper.{Reply, accepted, refusal}
 use Rattle.rules.specs.declared.Refusal.the-variants.{NoWalk, BoxMisses}
 use Rattle.walks.specs.Walk.{WalkBy}
 use Rattle.walks.specs.Rows.{network}
 use Rattle.walks.specs.Through.{InS}
-use Rattle.geometry.specs.Hull.{smaller, larger}
-use Rattle.settling.specs.Choice.{and-true}
-use Rattle.settling.specs.Labels.{before, startOf, labelled, offered, marked}
-use Rattle.settling.specs.Settle.{arcStep, relaxed, settleOf}
-use Rattle.settling.specs.Nearest.{better, leaderOf, nearestOf}
-use Rattle.settling.specs.Run.{afterPick, runOf}
-use Rattle.settling.specs.Trace.{fits, firstOf, arcFits, intoOf, afterInto, traceOf}
-use Rattle.settling.specs.LengthsTo.{onShortest}
-use Rattle.search.specs.Judge.{networkJudged, searchJudged, boxedJudged}
-use Rattle.search.specs.JudgeLaws.{network-fine}
 use Rattle.search.specs.Says.{SearchSays, BoxedSays}
-use Rattle.drawing.specs.Leads.{leadsAt, lengthsTo}
-use Rattle.drawing.specs.Grown.{grownIf, grownBy}
-use Rattle.drawing.specs.Missed.{missesB}
-use Rattle.boxwork.specs.Judge.{buildJudged, checkJudged, updateJudged}
 use Rattle.boxwork.specs.Says.{BuildSays, CheckSays, UpdateSays}
 use Rattle.worked.specs.Plans.{Plan, hall, reweightedHall, oneWay, zeros, behind, west, triangle, detour, triangleBoxes, mendedBoxes, hallBoxes, raisedBoxes, fullBoxes, treeBoxes, blank, route}
-use Rattle.worked.specs.Computed.{Told, orTold, answerOf, searchTold, boxedTold, drawnTo, buildTold, updateTold, lowestNode, orArc, lowestArc, checkTold, membersFrom, membersOf}
-use Rattle.worked.specs.ComputedLaws.{search-told, boxed-told, build-told, check-told, update-told}
-use Rattle.worked.specs.MembersLaws.{Among, members-are}
-use Rattle.worked.specs.Tests.{sameNumbers, same-numbers, sameTold, same-told, isFine, is-fine, walks, walks-by}
+
+-- a reply, with the route or weight row and the box row afterwards
+pub record Told : Type 0 where
+  pub reply : Reply
+  pub numbers : List ℕ
+  pub boxes : List ℤ
 
 -- A call of one of the functions; searches are lent `route`
 pub data Call : Type 0 where
@@ -52,6 +36,11 @@ Says (boxed p boxes s t) z = BoxedSays (p .nodes) (p .arcs) (p .rows) (p .x) (p 
 Says (build p before) z = BuildSays (p .nodes) (p .arcs) (p .rows) (p .x) (p .y) before (z .reply) (z .boxes)
 Says (check p boxes) z = CheckSays (p .nodes) (p .arcs) (p .rows) (p .x) (p .y) boxes (z .reply)
 Says (update p boxes arc weight) z = UpdateSays (p .nodes) (p .arcs) (p .rows) (p .x) (p .y) boxes arc weight (z .reply) (z .numbers) (z .boxes)
+
+-- v is one of a list's numbers
+abbrev pub Among : ℕ → List ℕ → Type 0
+Among v [] = ⊥
+Among v (u ∷ us) = (v ≡ u) ⊎ Among v us
 
 -- A line of the table
 pub data Case : Type 0 where
@@ -137,58 +126,6 @@ table =
     ∷ call (boxed hall (fullBoxes 6) 1 4) (found 6 2 4 (3 ∷ 4 ∷ 0 ∷ 0 ∷ []))
     ∷ []
 
--- ---- One computed test, and one law
-
-abbrev pub toldOf : Call → Told
-toldOf (search p s t) = searchTold (p .nodes) (p .arcs) (p .rows) s t route
-toldOf (boxed p boxes s t) = boxedTold (p .nodes) (p .arcs) (p .rows) (p .x) (p .y) boxes s t route
-toldOf (build p before) = buildTold (p .nodes) (p .arcs) (p .rows) (p .x) (p .y) before
-toldOf (check p boxes) = checkTold (p .nodes) (p .arcs) (p .rows) (p .x) (p .y) boxes
-toldOf (update p boxes arc weight) = updateTold (p .nodes) (p .arcs) (p .rows) (p .x) (p .y) boxes arc weight
-
-says : (c : Call) → Says c (toldOf c)
-says (search p s t) = search-told (p .nodes) (p .arcs) (p .rows) s t route
-says (boxed p boxes s t) = boxed-told (p .nodes) (p .arcs) (p .rows) s t route (p .x) (p .y) boxes
-says (build p before) = build-told (p .nodes) (p .arcs) (p .rows) (p .x) (p .y) before
-says (check p boxes) = check-told (p .nodes) (p .arcs) (p .rows) (p .x) (p .y) boxes
-says (update p boxes arc weight) = update-told (p .nodes) (p .arcs) (p .rows) (p .x) (p .y) boxes arc weight
-
-unfoldable pub passes : Case → Bool
-passes (set p e nodes) =
-    isFine (networkJudged (p .nodes) (p .arcs) (p .rows) true) && leb 1 e && leb e (p .arcs) && sameNumbers (membersOf (p .nodes) (p .arcs) (p .rows) e) nodes
-passes (walk p s t l arcs) = walks (p .arcs) (p .rows) s t l arcs
-passes (call c told) = sameTold (toldOf c) told
-
-passes-right : (c : Case) → passes c ≡ true → Right c
-unfolding passes
-passes-right (set p e nodes) h =
-    let n = p .nodes in
-    let m = p .arcs in
-    let R = p .rows in
-    let a = and-true (isFine (networkJudged n m R true) && leb 1 e && leb e m) (sameNumbers (membersOf n m R e) nodes) h in
-    let b = and-true (isFine (networkJudged n m R true) && leb 1 e) (leb e m) (a .0) in
-    let c = and-true (isFine (networkJudged n m R true)) (leb 1 e) (b .0) in
-    let sound = network-fine n m R true (is-fine _ (c .0)) .0 in
-    subst (λ (vs : List ℕ). (t : ℕ) → InS (network m R) e t ↔ Among t vs) (same-numbers (membersOf n m R e) nodes (a .1))
-    (members-are sound e (leb-true 1 e (c .1)) (leb-true e m (b .1)))
-passes-right (walk p s t l arcs) h = walks-by (p .arcs) (p .rows) s t l arcs h
-passes-right (call c told) h = subst (Says c) (same-told (toldOf c) told h) (says c)
-
-unfoldable pub allPass : List Case → Bool
-allPass [] = true
-allPass (c ∷ cs) = passes c && allPass cs
-
-each-right : (cs : List Case) → allPass cs ≡ true → Each Right cs
-unfolding allPass
-each-right [] h = no-line
-each-right (c ∷ cs) h = let p = and-true (passes c) (allPass cs) h in line (passes-right c (p .0)) (each-right cs (p .1))
-
--- THE THEOREM: every line of the table is right
-pub table-right : Each Right table
-unfolding
-    table allPass passes hall reweightedHall oneWay zeros behind west hallBoxes raisedBoxes fullBoxes treeBoxes triangle detour triangleBoxes mendedBoxes
-    orTold answerOf searchTold boxedTold drawnTo buildTold updateTold lowestNode orArc lowestArc checkTold membersFrom
-    networkJudged searchJudged boxedJudged buildJudged checkJudged updateJudged each smaller larger
-    before startOf labelled offered marked arcStep relaxed settleOf better leaderOf nearestOf afterPick runOf
-    fits firstOf arcFits intoOf afterInto traceOf onShortest leadsAt lengthsTo grownIf grownBy missesB
-table-right = each-right table refl
+-- THE STATEMENT of the table: every line is right
+abbrev pub TableRight : Type 0
+TableRight = Each Right table

@@ -1,1 +1,1 @@
-// The hall plan of 01 and its other small networks, worked through: specs/Table.antt.
+// The hall plan of 01 and its other small networks, worked through in specs/Table.antt.

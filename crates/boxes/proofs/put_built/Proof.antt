@@ -1,6 +1,6 @@
--- `boxes::put_built` meets its contract. Assumes nothing.
+-- `boxes::put_built` meets its contract.
 use native.Mathlib.Omega.{arith}
-use Rattle.files.proofs.PageLaws.{puts-case}
+use Rattle.pages.proofs.PageLaws.{puts-case}
 use Rattle.boxes.specs.Prints.{builtText}
 use borrow.Author.Needs.{needs}
 use Rattle.boxes.proofs.put_built.Statement.{statement}

@@ -1,4 +1,4 @@
--- `boxes::put_unread` meets its contract. Assumes nothing.
+-- `boxes::put_unread` meets its contract.
 use native.Mathlib.Omega.{arith}
 use Rattle.scan.specs.Ascii.{bytes}
 use Rattle.boxes.specs.Prints.{unreadLine}

@@ -1,10 +1,11 @@
--- `boxwork::check` meets its contract. Assumes nothing.
+-- `boxwork::check` meets its contract.
 use mathlib.Core.Path.{_≡_, sym, _∙_}
 use borrow.Author.Needs.{needs}
 use Rattle.rules.specs.declared.Judged.the-variants.{Fine}
 use Rattle.walks.specs.Rows.{rows}
 use Rattle.boxwork.specs.Says.{CheckSays}
-use Rattle.boxwork.specs.JudgeLaws.{Lent, build-fine, check-fine}
+use Rattle.judging.proofs.StageLaws.{BoxesLent as Lent}
+use Rattle.judging.proofs.FineLaws.{build-fine, check-fine}
 use Rattle.boxwork.proofs.Meaning.{missed-first, missed-none}
 use Rattle.boxwork.proofs.check.Statement.{statement}
 use Rattle.boxwork.proofs.check.Tie as tie
@@ -20,20 +21,20 @@ lent c e = build-fine _ _ _ _ _ _ (check-fine _ _ _ _ _ _ (sym (c .judge-check .
 returns : tie.Need-returns
 returns c = let e = c .enum-told2 .given .1 in rw e (CheckSays.refused (sym (c .before .before .judge-check .ensures) ∙ e))
 
-find-missed-requires : tie.Need-find-missed-requires
-find-missed-requires c κs = let l = lent (c .before .before) (c .enum-told .given .1) in (l .sound, l .x-long, l .y-long, l .boxes-long)
+find-miss-requires : tie.Need-find-miss-requires
+find-miss-requires c κs = let l = lent (c .before .before) (c .enum-told .given .1) in (l .sound, l .x-long, l .y-long, l .boxes-long)
 
 returns-2 : tie.Need-returns-2
 returns-2 c =
     let j = c .before .before .before .before .before in
     let e = c .before .before .before .enum-told .given .1 in
-    CheckSays.consistent (sym (j .judge-check .ensures) ∙ e) (missed-none (lent j e .sound) _ _ _ (rw (c .enum-told3 .given .1) at (c .before .before .find-missed .ensures)))
+    CheckSays.consistent (sym (j .judge-check .ensures) ∙ e) (missed-none (lent j e .sound) _ _ _ (rw (c .enum-told3 .given .1) at (c .before .before .find-miss .ensures)))
 
 returns-3 : tie.Need-returns-3
 returns-3 c =
     let j = c .before .before .before .before .before .before in
     let e = c .before .before .before .before .enum-told .given .1 in
-    CheckSays.missed (sym (j .judge-check .ensures) ∙ e) (missed-first (lent j e .sound) _ _ _ (rw (c .before .missed .given .1) at (c .before .before .before .find-missed .ensures)))
+    CheckSays.missed (sym (j .judge-check .ensures) ∙ e) (missed-first (lent j e .sound) _ _ _ (rw (c .before .miss .given .1) at (c .before .before .before .find-miss .ensures)))
 
 pub check-spec : {M : Type 1} → statement M
 check-spec =
@@ -41,7 +42,7 @@ check-spec =
     (tie.spec
     (λ c κs. search needs) (λ c. search needs) (λ c. search needs)
     returns
-    find-missed-requires
+    find-miss-requires
     (λ c. search needs) (λ c. search needs)
     returns-2
     returns-3)

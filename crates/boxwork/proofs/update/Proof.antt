@@ -1,4 +1,4 @@
--- `boxwork::update` meets its contract. Assumes nothing.
+-- `boxwork::update` meets its contract.
 use Prim.Native.Nat.{_≤_}
 use mathlib.Core.Path.{_≡_, sym, _∙_}
 use native.Mathlib.Omega.{arith}
@@ -7,7 +7,9 @@ use Rattle.rules.specs.declared.Judged.the-variants.{Fine}
 use Rattle.walks.specs.Rows.{rows}
 use Rattle.drawing.proofs.Steps.{first-arcs}
 use Rattle.boxwork.specs.Says.{UpdateSays, reweighted}
-use Rattle.boxwork.specs.JudgeLaws.{Lent, build-fine, check-fine, update-fine, lent-reweighted}
+use Rattle.judging.proofs.StageLaws.{BoxesLent as Lent}
+use Rattle.judging.proofs.FineLaws.{build-fine, check-fine, update-fine}
+use Rattle.boxwork.proofs.ReweightedLaws.{lent-reweighted}
 use Rattle.boxwork.proofs.Meaning.{heads-nodes, updated-says}
 use Rattle.boxwork.proofs.update.Statement.{statement}
 use Rattle.boxwork.proofs.update.Tie as tie
@@ -33,8 +35,8 @@ set-weight-requires c κs =
     let f = fine (c .before .before .before) (c .before .enum-told .given .1) in
     (f .1, omega (arith, f .2, f .0 .sound .weights-long))
 
-grow-heads-requires : tie.Need-grow-heads-requires
-grow-heads-requires c κs =
+draw-heads-requires : tie.Need-draw-heads-requires
+draw-heads-requires c κs =
     let f = fine (c .before .before .before .before .before .before .before) (c .before .before .before .before .before .enum-told .given .1) in
     let l = f .0 in
     (heads-nodes (l .sound) (l .x-long) (omega (arith, f .2)), heads-nodes (l .sound) (l .y-long) (omega (arith, f .2)), omega (arith, f .2, l .boxes-long))
@@ -44,13 +46,13 @@ grow-all-requires c κs =
     let s = c .before .before .before .before .before .before .before in
     let f = fine (s .before .before .before .before) (s .before .before .enum-told .given .1) in
     let l = f .3 in
-    (rw (s .set-weight .ensures) (first-arcs (l .sound) _ (omega (arith, f .2))), l .x-long, l .y-long, omega (arith, f .2, l .boxes-long, c .before .before .before .grow-heads .ensures .long))
+    (rw (s .set-weight .ensures) (first-arcs (l .sound) _ (omega (arith, f .2))), l .x-long, l .y-long, omega (arith, f .2, l .boxes-long, c .before .before .before .draw-heads .ensures .long))
 
 returns-2 : tie.Need-returns-2
 returns-2 c =
     let s = c .before .before .before .before .before .before .before .before .before in
     updated-says (sym (s .before .before .before .before .judge-update .ensures) ∙ s .before .before .enum-told .given .1) (s .set-weight .ensures)
-    (c .before .before .before .before .before .grow-heads .ensures) (c .before .grow-all .ensures)
+    (c .before .before .before .before .before .draw-heads .ensures) (c .before .grow-all .ensures)
 
 pub update-spec : {M : Type 1} → statement M
 update-spec =
@@ -59,7 +61,7 @@ update-spec =
     (λ c κs. search needs) (λ c. search needs) (λ c. search needs) (λ c. search needs) (λ c. search needs)
     returns
     set-weight-requires
-    grow-heads-requires
+    draw-heads-requires
     grow-all-requires
     (λ c. search needs) (λ c. search needs)
     returns-2)

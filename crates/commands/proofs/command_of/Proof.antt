@@ -1,4 +1,4 @@
--- `commands::command_of` meets its contract. Assumes nothing.
+-- `commands::command_of` meets its contract.
 use mathlib.Core.Path.{_≡_, sym, ap, _∙_}
 use mathlib.Core.Bool.{cond}
 use lib.ListN.{drop}

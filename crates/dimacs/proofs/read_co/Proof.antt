@@ -2,6 +2,7 @@ use mathlib.Core.Path.{_∙_}
 use native.Mathlib.Omega.{arith}
 use borrow.Author.Tests.{not-true, not-false}
 use lib.ListN.{length}
+use Rattle.dimacs.specs.Co.{coRules}
 use Rattle.dimacs.proofs.Accepted.{co-count}
 use Rattle.dimacs.proofs.Replies.{fine-outcome, refused-outcome, co-too-long, co-too-short, co-beyond, co-text, co-out, co-in, two-tests}
 use borrow.Author.Needs.{needs}
@@ -45,10 +46,13 @@ put-integers-requires-2 c κs =
     omega arith
 
 returns-4 : tie.Need-returns-4
+unfolding coRules
 returns-4 c =
     let args = c .before .before .before .before .before .before .before .before .before .before .before .before .before .before .args in
     let is-text = co-text (args .text .now) (args .n) (args .x .now) (args .y .now) (c .before .before .before .before .before .before .before .before .before .before .before .before .if1 .left) (not-false _ (c .before .before .before .before .before .before .before .before .before .before .before .if2 .left)) (not-false _ (c .before .before .before .before .before .before .before .before .before .before .if3 .left)) in
-    co-in _ _ _ _ _ _ _ _ (is-text ∙ fine-outcome _ _ _ (c .before .before .before .before .before .before .before .before .before .read-sheet .ensures) (c .before .before .before .before .before .before .before .enum-told .given .1))
+    let is-read = fine-outcome _ _ _ (c .before .before .before .before .before .before .before .before .before .read-sheet .ensures) (c .before .before .before .before .before .before .before .enum-told .given .1) in
+    let nodes = two-tests 1 (args .n) (args .n) 512 (not-false _ (c .before .before .before .before .before .before .before .before .before .before .if3 .left)) in
+    co-in _ _ _ _ _ _ _ _ (is-text ∙ is-read) (co-count (args .n) (args .text .now) _ _ (nodes .1) is-read .1)
     (c .before .before .before .before .put-integers .ensures) (c .before .put-integers2 .ensures)
 
 returns-5 : tie.Need-returns-5

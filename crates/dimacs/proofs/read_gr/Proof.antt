@@ -1,6 +1,7 @@
 use mathlib.Core.Path.{_∙_}
 use native.Mathlib.Omega.{arith}
 use borrow.Author.Tests.{not-true, not-false}
+use Rattle.dimacs.specs.Gr.{grRules}
 use Rattle.dimacs.proofs.Accepted.{gr-count}
 use Rattle.dimacs.proofs.Replies.{fine-outcome, refused-outcome, gr-too-long, gr-too-short, gr-text, gr-out, gr-in, gr-room}
 use borrow.Author.Needs.{needs}
@@ -39,10 +40,12 @@ put-naturals-requires-3 c κs =
     omega arith
 
 returns-3 : tie.Need-returns-3
+unfolding grRules
 returns-3 c =
     let args = c .before .before .before .before .before .before .before .before .before .before .before .before .before .before .before .before .before .before .before .before .before .before .args in
     let is-text = gr-text (args .text .now) (args .tails .now) (args .heads .now) (args .weights .now) (c .before .before .before .before .before .before .before .before .before .before .before .before .before .before .before .before .before .if1 .left) (not-false _ (c .before .before .before .before .before .before .before .before .before .before .before .before .before .before .before .before .if2 .left)) in
-    gr-in _ _ _ _ _ _ _ _ _ (is-text ∙ fine-outcome _ _ _ (c .before .before .before .before .before .before .before .before .before .before .before .before .before .before .before .read-sheet .ensures) (c .before .before .before .before .before .before .before .before .before .before .before .before .before .enum-told .given .1))
+    let is-read = fine-outcome _ _ _ (c .before .before .before .before .before .before .before .before .before .before .before .before .before .before .before .read-sheet .ensures) (c .before .before .before .before .before .before .before .before .before .before .before .before .before .enum-told .given .1) in
+    gr-in _ _ _ _ _ _ _ _ _ (is-text ∙ is-read) (gr-count (args .text .now) _ _ is-read .1)
     (c .before .before .before .before .before .before .before .before .before .before .put-naturals .ensures) (c .before .before .before .before .before .before .put-naturals2 .ensures) (c .before .before .put-naturals3 .ensures)
 
 returns-4 : tie.Need-returns-4

@@ -1,4 +1,4 @@
--- `geometry::grow_box` meets its contract. Assumes nothing.
+-- `geometry::grow_box` meets its contract.
 use mathlib.Core.Path.{_∙_}
 use Rattle.geometry.proofs.Signed.{back}
 use borrow.Author.Needs.{needs}

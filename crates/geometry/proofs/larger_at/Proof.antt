@@ -1,4 +1,4 @@
--- `geometry::larger_at` meets its contract. Assumes nothing.
+-- `geometry::larger_at` meets its contract.
 use borrow.Author.Needs.{needs}
 use Rattle.geometry.specs.Hull.{larger}
 use Rattle.geometry.specs.Row.{number}

@@ -1,4 +1,4 @@
--- `geometry::smaller_at` meets its contract. Assumes nothing.
+-- `geometry::smaller_at` meets its contract.
 use borrow.Author.Needs.{needs}
 use Rattle.geometry.specs.Hull.{smaller}
 use Rattle.geometry.specs.Row.{number}

@@ -1,4 +1,4 @@
--- `geometry::start_box` meets its contract. Assumes nothing.
+-- `geometry::start_box` meets its contract.
 use mathlib.Core.Path.{_∙_}
 use borrow.Author.Needs.{needs}
 use Rattle.geometry.proofs.Signed.{back}

@@ -1,4 +1,4 @@
--- `geometry::store` meets its contract. Assumes nothing.
+-- `geometry::store` meets its contract.
 use native.Mathlib.Omega.{arith}
 use lib.ListN.{length-set}
 use borrow.Author.Needs.{needs}

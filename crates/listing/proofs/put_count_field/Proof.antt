@@ -1,8 +1,8 @@
--- `listing::put_count_field` meets its contract. Assumes nothing.
+-- `listing::put_count_field` meets its contract.
 use Prim.Native.Nat.{_-_}
 use native.Mathlib.Omega.{arith}
 use Rattle.scan.specs.Ascii.{bytes}
-use Rattle.files.proofs.PageLaws.{puts-both}
+use Rattle.pages.proofs.PageLaws.{puts-both}
 use borrow.Author.Needs.{needs}
 use Rattle.listing.proofs.put_count_field.Statement.{statement}
 use Rattle.listing.proofs.put_count_field.Tie as tie

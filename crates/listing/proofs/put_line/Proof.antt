@@ -1,7 +1,7 @@
--- `listing::put_line` meets its contract. Assumes nothing.
+-- `listing::put_line` meets its contract.
 use Prim.Native.Nat.{_-_}
 use native.Mathlib.Omega.{arith}
-use Rattle.files.proofs.PageLaws.{puts-both}
+use Rattle.pages.proofs.PageLaws.{puts-both}
 use Rattle.listing.specs.Listing.{lineText}
 use borrow.Author.Needs.{needs}
 use Rattle.listing.proofs.put_line.Statement.{statement}

@@ -1,11 +1,11 @@
--- `listing::put_listing` meets its contract. Assumes nothing.
+-- `listing::put_listing` meets its contract.
 use Prim.Native.Nat.{_≤_, _-_, _*_}
 use mathlib.Core.Path.{_≡_}
 use native.Mathlib.Omega.{arith}
-use Rattle.files.proofs.PageLaws.{puts-both, puts-none}
+use Rattle.pages.proofs.PageLaws.{puts-both, puts-none}
 use native.Mathlib.Numerals.{add-one}
 use borrow.Author.Needs.{needs}
-use Rattle.files.specs.Page.{Puts}
+use Rattle.pages.specs.Page.{Puts}
 use Rattle.listing.specs.Listing.{listing}
 use Rattle.listing.proofs.put_listing.Statement.{statement}
 use Rattle.listing.proofs.put_listing.Tie as tie

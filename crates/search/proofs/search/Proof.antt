@@ -1,11 +1,11 @@
--- `search::search` meets its contract: refused as judged, or answered over all arcs. Assumes nothing.
+-- `search::search` meets its contract: refused as judged, or answered over all arcs.
 use mathlib.Core.Path.{sym, _∙_}
 use borrow.Author.Needs.{needs}
 use lib.ListN.{length}
 use Rattle.walks.specs.Rows.{rows}
 use Rattle.search.specs.Says.{refused, answered}
-use Rattle.search.specs.JudgeLaws.{Lent, search-fine}
-use Rattle.search.specs.Networks.{answers-alike, all-arcs}
+use Rattle.judging.proofs.FineLaws.{SearchLent, search-fine}
+use Rattle.search.proofs.Networks.{answers-alike, all-arcs}
 use Rattle.search.proofs.search.Statement.{statement}
 use Rattle.search.proofs.search.Tie as tie
 
@@ -13,7 +13,7 @@ use Rattle.search.proofs.search.Tie as tie
 fine :
     (c : tie.After-enum-told) →
     let a = c .before .before .before .before .before .before .before .args in
-    Lent (a .n) (a .m) (rows (a .tails .now) (a .heads .now) (a .weights .now)) (a .s) (a .t) (length (a .route .now))
+    SearchLent (a .n) (a .m) (rows (a .tails .now) (a .heads .now) (a .weights .now)) (a .s) (a .t) (length (a .route .now))
 fine c = search-fine _ _ _ _ _ _ (sym (c .before .before .judge-search .ensures) ∙ c .enum-told .given .1)
 
 find-requires : tie.Need-find-requires

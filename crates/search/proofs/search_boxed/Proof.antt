@@ -1,4 +1,4 @@
--- `search::search_boxed` meets its contract: refused as judged, or answered over the arcs whose box holds t. Assumes nothing.
+-- `search::search_boxed` meets its contract: refused as judged, or answered over the arcs whose box holds t.
 use Prim.Native.Nat.{_*_, _≤_}
 use mathlib.Core.Path.{sym, _∙_}
 use native.Mathlib.Omega.{arith}
@@ -8,8 +8,8 @@ use Rattle.geometry.proofs.Signed.{back}
 use Rattle.geometry.specs.Row.{coordinate}
 use Rattle.walks.specs.Rows.{rows}
 use Rattle.search.specs.Says.{refused, answered}
-use Rattle.search.specs.JudgeLaws.{Lent, boxed-fine}
-use Rattle.search.specs.Networks.{answers-alike, held-arcs}
+use Rattle.judging.proofs.FineLaws.{SearchLent, boxed-fine}
+use Rattle.search.proofs.Networks.{answers-alike, held-arcs}
 use Rattle.search.proofs.search_boxed.Statement.{statement}
 use Rattle.search.proofs.search_boxed.Tie as tie
 
@@ -17,7 +17,7 @@ use Rattle.search.proofs.search_boxed.Tie as tie
 fine :
     (c : tie.After-enum-told) →
     let a = c .before .before .before .before .before .before .before .args in
-    Lent (a .n) (a .m) (rows (a .tails .now) (a .heads .now) (a .weights .now)) (a .s) (a .t) (length (a .route .now))
+    SearchLent (a .n) (a .m) (rows (a .tails .now) (a .heads .now) (a .weights .now)) (a .s) (a .t) (length (a .route .now))
     × (a .n ≤ length (a .x .now))
     × (a .n ≤ length (a .y .now))
     × (4 * a .m ≤ length (a .boxes .now))

@@ -1,4 +1,4 @@
--- `settling::passes` meets its contract: the box test is geometry's, at the place that the search goes toward. Assumes nothing.
+-- `settling::passes` meets its contract: the box test is geometry's, at the place that the search goes toward.
 use Prim.Native.Nat.{ℕ, _*_, _≤_}
 use mathlib.Core.Path.{_≡_}
 use mathlib.Core.Bool.{Bool}

@@ -1,4 +1,4 @@
--- `commands::arguments::ask` meets its contract. Assumes nothing.
+-- `commands::arguments::ask` meets its contract.
 use mathlib.Core.Path.{sym}
 use Rattle.commands.specs.Commands.{asked}
 use Rattle.commands.proofs.CommandLaws.{number-is, number-not, pair-are, pair-not}

@@ -1,4 +1,4 @@
--- `commands::arguments::lend_of` meets its contract. Assumes nothing.
+-- `commands::arguments::lend_of` meets its contract.
 use mathlib.Core.Path.{_≡_, sym, _∙_}
 use Rattle.commands.specs.Words.{wordsOf}
 use Rattle.commands.specs.Commands.{onceGood, lendAsked, asked}
@@ -19,13 +19,13 @@ unfolding asked
 known c = row-known lendAsked _ _ _ _ _ (c .before .before .before .before .before .first-word .ensures) (c .before .before .before .before .row-of .ensures) (c .before .before .name .given .1) (c .after-word .ensures)
 
 returns-2 : tie.Need-returns-2
-returns-2 c = sym (known (c .before .before .before) ∙ lend-long _ _ _ _ (c .before .count-words .ensures) (c .before .before .places .ensures) (c .if1 .taken))
+returns-2 c = sym (known (c .before .before .before .before) ∙ lend-long _ _ _ _ (c .before .before .count-words .ensures) (c .before .before .before .stretch .ensures .0) (c .if1 .taken))
 
 -- there is room for the values, and they are judged
 fits : (c : tie.After-judge-values) → asked Lend (wordsOf (c .before .before .before .before .before .before .before .before .before .before .before .before .args .words .now)) ≡ onceGood (c .judge-values .result) (command.Lend (c .before .before .before .before .before .before .before .name .given .0 .0))
 fits c =
     known (c .before .before .before .before .before)
-    ∙ lend-judged _ _ _ _ _ _ (c .before .before .before .count-words .ensures) (c .before .before .before .before .places .ensures) (c .before .before .if1 .left) (c .before .is-signed .ensures) (c .judge-values .ensures)
+    ∙ lend-judged _ _ _ _ _ (c .before .before .before .count-words .ensures) (c .before .before .before .before .stretch .ensures .0) (c .before .if1 .left) (c .judge-values .ensures)
 
 returns-3 : tie.Need-returns-3
 returns-3 c = sym (fits (c .before .before) ∙ once-good _ _ (c .enum-told2 .given .1))
@@ -41,6 +41,6 @@ lend-of-spec =
     returns
     (λ c κs. search needs) (λ c κs. search needs) (λ c κs. search needs)
     returns-2
-    (λ c κs. search needs) (λ c κs. search needs) (λ c. search needs) (λ c. search needs)
+    (λ c κs. search needs) (λ c. search needs) (λ c. search needs)
     returns-3
     returns-4)

@@ -1,4 +1,4 @@
--- `commands::arguments::read_pair` meets its contract. Assumes nothing.
+-- `commands::arguments::read_pair` meets its contract.
 use mathlib.Core.Path.{_≡_, sym, ap, ap₂, _∙_}
 use Rattle.scan.specs.Pieces.{firstField}
 use Rattle.commands.specs.Words.{wordsOf}

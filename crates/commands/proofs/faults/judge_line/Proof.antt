@@ -1,4 +1,4 @@
--- `commands::faults::judge_line` meets its contract. Assumes nothing.
+-- `commands::faults::judge_line` meets its contract.
 use mathlib.Core.Path.{_≡_, sym, ap, _∙_}
 use mathlib.Core.Bool.{Bool, cond}
 use Rattle.commands.specs.Commands.{lineJudged}

@@ -1,4 +1,4 @@
--- `commands::faults::judge_values` meets its contract. Assumes nothing.
+-- `commands::faults::judge_values` meets its contract.
 use Prim.Native.Nat.{_≤_, _+_, _-_}
 use mathlib.Core.Path.{_≡_, sym, _∙_}
 use native.Mathlib.Omega.{arith}
@@ -12,19 +12,19 @@ use Rattle.commands.proofs.faults.judge_values.Statement.{statement}
 use Rattle.commands.proofs.faults.judge_values.Tie as tie
 
 abbrev Inv-loop : tie.InvT-loop
-Inv-loop words is-signed at₀ at = (at ≤ length words + 1) × (valuesJudged is-signed (wordsOf words) ≡ valuesJudged is-signed (wordsOf (drop at words)))
+Inv-loop words kind at₀ at = (at ≤ length words + 1) × (valuesJudged kind (wordsOf words) ≡ valuesJudged kind (wordsOf (drop at words)))
 
 abbrev μ-loop : tie.MeasureT-loop
-μ-loop words is-signed at₀ at = length words + 1 - at
+μ-loop words kind at₀ at = length words + 1 - at
 
 -- the values are judged by the word that is read now, and then by those after it
 turn : (c : tie.After-judge-value Inv-loop μ-loop)
-    → valuesJudged (c .before .before .before .before .before .before .before .args .is-signed) (wordsOf (c .before .before .before .before .before .before .before .args .words .now))
-    ≡ onGood (c .judge-value .result) (valuesJudged (c .before .before .before .before .before .before .before .args .is-signed) (wordsOf (drop (c .before .before .before .before .before .loop .at + c .before .before .first-at .result + 1) (c .before .before .before .before .before .before .before .args .words .now))))
+    → valuesJudged (c .before .before .before .before .before .before .before .args .kind) (wordsOf (c .before .before .before .before .before .before .before .args .words .now))
+    ≡ onGood (c .judge-value .result) (valuesJudged (c .before .before .before .before .before .before .before .args .kind) (wordsOf (drop (c .before .before .before .before .before .loop .at + c .before .before .first-at .result + 1) (c .before .before .before .before .before .before .before .args .words .now))))
 turn c =
     let args = c .before .before .before .before .before .before .before .args in
     let loop = c .before .before .before .before .before .loop in
-    loop .inv .1 ∙ values-turn (args .is-signed) (args .words .now) _ _ (loop .at) _ _ (c .before .before .before .rest .ensures) (c .before .before .first-at .ensures .0) (c .before .before .before .before .loop-test .taken) (c .before .front .ensures) (c .judge-value .ensures)
+    loop .inv .1 ∙ values-turn (args .kind) (args .words .now) _ _ (loop .at) _ _ (c .before .before .before .rest .ensures) (c .before .before .first-at .ensures .0) (c .before .before .before .before .loop-test .taken) (c .before .front .ensures) (c .judge-value .ensures)
 
 returns : tie.Need-returns Inv-loop μ-loop
 returns c = sym (turn (c .before .before) ∙ on-bad _ _ _ (c .enum-told2 .given .1))

@@ -1,4 +1,4 @@
--- `commands::verbs::takes` meets its contract. Assumes nothing.
+-- `commands::verbs::takes` meets its contract.
 use borrow.Author.Needs.{needs}
 use Rattle.commands.proofs.verbs.takes.Statement.{statement}
 use Rattle.commands.proofs.verbs.takes.Tie as tie

@@ -1,4 +1,4 @@
--- `commands::words::after_word` meets its contract. Assumes nothing.
+-- `commands::words::after_word` meets its contract.
 use Prim.Native.Nat.{_≤_, _+_}
 use mathlib.Core.Path.{_∙_}
 use native.Mathlib.Omega.{arith}

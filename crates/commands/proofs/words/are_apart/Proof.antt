@@ -1,4 +1,4 @@
--- `commands::words::are_apart` meets its contract. Assumes nothing.
+-- `commands::words::are_apart` meets its contract.
 use Prim.Native.Nat.{_≤_, _-_}
 use mathlib.Core.Path.{_≡_, sym, _∙_}
 use native.Mathlib.Omega.{arith}

@@ -1,4 +1,4 @@
--- `commands::words::count_words` meets its contract. Assumes nothing.
+-- `commands::words::count_words` meets its contract.
 use Prim.Native.Nat.{_≤_, _+_, _-_}
 use mathlib.Core.Path.{_≡_, ap}
 use native.Mathlib.Omega.{arith}

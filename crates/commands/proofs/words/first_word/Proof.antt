@@ -1,4 +1,4 @@
--- `commands::words::first_word` meets its contract. Assumes nothing.
+-- `commands::words::first_word` meets its contract.
 use Prim.Native.Nat.{_-_}
 use borrow.Author.Needs.{needs}
 use Rattle.commands.proofs.words.first_word.Statement.{statement}

@@ -1,4 +1,4 @@
--- `commands::words::holds_byte` meets its contract. Assumes nothing.
+-- `commands::words::holds_byte` meets its contract.
 use lib.ListN.{length}
 use lib.Dec.{ltb}
 use mathlib.Core.Path.{ap, _∙_}

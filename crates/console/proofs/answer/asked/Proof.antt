@@ -1,4 +1,4 @@
--- `console::answer::asked` meets its contract. Assumes nothing.
+-- `console::answer::asked` meets its contract.
 use mathlib.Core.Path.{ap, _∙_}
 use borrow.Author.Tests.{lt-ltb, le-ltb}
 use Rattle.commands.specs.Commands.{commandOf}

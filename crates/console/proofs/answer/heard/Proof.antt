@@ -1,4 +1,4 @@
--- `console::answer::heard` meets its contract. Assumes nothing.
+-- `console::answer::heard` meets its contract.
 use mathlib.Core.Path.{sym}
 use lib.Seq.{take-all}
 use borrow.Author.Needs.{needs}

@@ -1,4 +1,4 @@
--- `console::state::start` meets its contract. Assumes nothing.
+-- `console::state::start` meets its contract.
 use borrow.Author.Needs.{needs}
 use Rattle.console.proofs.state.start.Statement.{statement}
 use Rattle.console.proofs.state.start.Tie as tie

@@ -1,3 +1,4 @@
+-- `dimacs::judge::judge_data` meets its contract.
 use mathlib.Core.Path.{sym, _∙_}
 use borrow.Author.Tests.{not-true, not-false, lt-ltb, le-ltb}
 use Rattle.dimacs.specs.Judgement.{dataJudged}
@@ -27,12 +28,12 @@ returns-3 c =
 returns-4 : tie.Need-returns-4
 unfolding dataJudged
 returns-4 c =
-    rw (not-false (c .before .before .before .before .before .before .before .before .args .head .seen) (c .before .before .before .before .before .before .if1 .left), sym (c .before .before .before .before .before .are-within .ensures) ∙ not-false (c .before .before .before .before .before .are-within .result) (c .before .before .before .before .if2 .left), sym (c .before .before .before .is-again .ensures) ∙ c .before .before .if3 .left, lt-ltb _ _ (c .if4 .taken))
+    rw (not-false (c .before .before .before .before .before .before .before .before .before .args .head .seen) (c .before .before .before .before .before .before .before .if1 .left), sym (c .before .before .before .before .before .before .are-within .ensures) ∙ not-false (c .before .before .before .before .before .before .are-within .result) (c .before .before .before .before .before .if2 .left), sym (c .before .before .before .before .is-again .ensures) ∙ c .before .before .before .if3 .left, ← c .before .before .count-announced .ensures, lt-ltb _ _ (c .if4 .taken))
 
 returns-5 : tie.Need-returns-5
 unfolding dataJudged
 returns-5 c =
-    rw (not-false (c .before .before .before .before .before .before .before .before .args .head .seen) (c .before .before .before .before .before .before .if1 .left), sym (c .before .before .before .before .before .are-within .ensures) ∙ not-false (c .before .before .before .before .before .are-within .result) (c .before .before .before .before .if2 .left), sym (c .before .before .before .is-again .ensures) ∙ c .before .before .if3 .left, le-ltb _ _ (c .if4 .left))
+    rw (not-false (c .before .before .before .before .before .before .before .before .before .args .head .seen) (c .before .before .before .before .before .before .before .if1 .left), sym (c .before .before .before .before .before .before .are-within .ensures) ∙ not-false (c .before .before .before .before .before .before .are-within .result) (c .before .before .before .before .before .if2 .left), sym (c .before .before .before .before .is-again .ensures) ∙ c .before .before .before .if3 .left, ← c .before .before .count-announced .ensures, le-ltb _ _ (c .if4 .left))
 
 pub judge-data-spec : {M : Type 1} → statement M
 judge-data-spec =
@@ -43,5 +44,6 @@ judge-data-spec =
     returns-2
     is-again-requires
     returns-3
+    (λ c κs. search needs)
     returns-4
     returns-5)

@@ -1,4 +1,7 @@
-use mathlib.Core.Path.{sym, _∙_}
+-- `dimacs::judge::judge_problem` meets its contract.
+use mathlib.Core.Path.{_≡_, sym, _∙_}
+use mathlib.Core.Bool.{_&&_}
+use lib.Dec.{leb}
 use borrow.Author.Tests.{not-true, not-false}
 use Rattle.dimacs.specs.Judgement.{problemJudged}
 use borrow.Author.Needs.{needs}
@@ -16,12 +19,12 @@ returns-2 c = rw (c .before .before .if1 .left, sym (c .before .are-within .ensu
 returns-3 : tie.Need-returns-3
 unfolding problemJudged
 returns-3 c =
-    rw (c .before .before .before .before .before .before .before .if1 .left, sym (c .before .before .before .before .before .before .are-within .ensures) ∙ not-false _ (c .before .before .before .before .before .if2 .left), c .if3 .taken)
+    rw (c .before .before .before .before .before .before .if1 .left, sym (c .before .before .before .before .before .are-within .ensures) ∙ not-false _ (c .before .before .before .before .if2 .left), ← c .before .before .before .count-announced .ensures, c .if3 .taken)
 
 returns-4 : tie.Need-returns-4
 unfolding problemJudged
 returns-4 c =
-    rw (c .before .before .before .before .before .before .before .if1 .left, sym (c .before .before .before .before .before .before .are-within .ensures) ∙ not-false _ (c .before .before .before .before .before .if2 .left), c .if3 .left)
+    rw (c .before .before .before .before .before .before .if1 .left, sym (c .before .before .before .before .before .are-within .ensures) ∙ not-false _ (c .before .before .before .before .if2 .left), ← c .before .before .before .count-announced .ensures, c .if3 .left)
 
 pub judge-problem-spec : {M : Type 1} → statement M
-judge-problem-spec = tie.close (tie.spec returns (λ c κs. search needs) returns-2 returns-3 returns-4)
+judge-problem-spec = tie.close (tie.spec returns (λ c κs. search needs) returns-2 (λ c κs. search needs) returns-3 returns-4)

@@ -1,7 +1,7 @@
 use mathlib.Core.Path.{_≡_, sym, ap, _∙_}
 use mir.Syntax.{w32}
 use mir.Val.{toZ, ofZ}
-use Rattle.dimacs.specs.Rows.{axisOf}
+use Rattle.dimacs.specs.Rules.{axisOf}
 use Rattle.dimacs.specs.declared.rows.Axis.{Axis}
 use borrow.Author.Needs.{needs}
 use Rattle.dimacs.proofs.rows.integer.Statement.{statement}

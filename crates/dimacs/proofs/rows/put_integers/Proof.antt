@@ -4,7 +4,7 @@ use native.Mathlib.Omega.{arith}
 use lib.ListN.{length}
 use borrow.Author.Needs.{needs, sfits-of}
 use mir.Facts.{toZ-ofZ}
-use Rattle.dimacs.specs.Rows.{axisOf}
+use Rattle.dimacs.specs.Rules.{axisOf}
 use Rattle.dimacs.proofs.RowLaws.{Filled, fill-more, fill-end}
 use Rattle.dimacs.proofs.rows.put_integers.Statement.{statement}
 use Rattle.dimacs.proofs.rows.put_integers.Tie as tie

@@ -3,7 +3,7 @@ use mathlib.Core.Path.{_≡_}
 use native.Mathlib.Omega.{arith}
 use lib.ListN.{length}
 use borrow.Author.Needs.{needs}
-use Rattle.dimacs.specs.Rows.{columnOf}
+use Rattle.dimacs.specs.Rules.{columnOf}
 use Rattle.dimacs.proofs.RowLaws.{Filled, fill-more, fill-end}
 use Rattle.dimacs.proofs.rows.put_naturals.Statement.{statement}
 use Rattle.dimacs.proofs.rows.put_naturals.Tie as tie

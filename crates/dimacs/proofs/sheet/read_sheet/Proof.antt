@@ -3,7 +3,9 @@ use Prim.Native.Nat.{_-_}
 use mathlib.Core.Path.{sym, ap, _∙_}
 use native.Mathlib.Omega.{arith}
 use lib.ListN.{length}
+use Rattle.dimacs.specs.Judgement.{ended}
 use Rattle.dimacs.specs.Texts.{next}
+use Rattle.dimacs.specs.declared.format.Rules.{Rules}
 use Rattle.dimacs.proofs.Fairness.{fair-of}
 use Rattle.dimacs.proofs.Reading.{Going, Turn, state, going-start, line-out, line-kept, line-problem, data-low, data-room, data-place, line-data, text-end, judged-out}
 use borrow.Author.Needs.{needs}
@@ -101,7 +103,7 @@ loop-again-4 c =
 
 returns-2 : tie.Need-returns-2 Inv-loop μ-loop
 returns-2 c =
-    text-end _ _ _ _ _ _ (c .before .before .before .loop .inv) (c .before .before .loop-test .left) (c .judge-end .ensures)
+    text-end _ _ _ _ _ _ (c .before .before .before .before .loop .inv) (c .before .before .before .loop-test .left) (c .judge-end .ensures ∙ ap (λ (R : Rules). ended R (c .before .before .before .before .loop .head) (c .before .before .before .before .loop .line)) (c .before .rules-for2 .ensures))
 
 pub read-sheet-spec : {M : Type 1} → statement M
 read-sheet-spec =
@@ -132,5 +134,5 @@ read-sheet-spec =
     loop-again-3
     (λ c. search needs)
     loop-again-4
-    (λ c κs. search needs)
+    (λ c κs. search needs) (λ c κs. search needs)
     returns-2)

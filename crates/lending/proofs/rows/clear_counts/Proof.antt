@@ -1,4 +1,4 @@
--- `lending::rows::clear_counts` meets its contract. Assumes nothing.
+-- `lending::rows::clear_counts` meets its contract.
 use Prim.Native.Nat.{_-_}
 use native.Mathlib.Omega.{arith}
 use lib.ListN.{length, length-set}

@@ -1,4 +1,4 @@
--- `lending::rows::clear_numbers` meets its contract. Assumes nothing.
+-- `lending::rows::clear_numbers` meets its contract.
 use Prim.Native.Nat.{_-_}
 use lib.IntN.{pos}
 use native.Mathlib.Omega.{arith}

@@ -1,7 +1,7 @@
--- `lending::storing::store_counts` meets its contract. Assumes nothing.
+-- `lending::storing::store_counts` meets its contract.
 use Prim.Native.Nat.{_+_, _-_, _<_}
 use mathlib.Core.Path.{sym, _∙_}
-use mathlib.Core.Bool.{false}
+use Rattle.commands.specs.declared.rows.Kind.the-variants.{Counts}
 use native.Mathlib.Omega.{arith}
 use lib.ListN.{length}
 use Rattle.commands.specs.Commands.{number}
@@ -28,7 +28,7 @@ same-length c = c .before .before .before .before .before .before .before .loop 
 returns : tie.Need-returns Inv-loop μ-loop
 returns c =
     count-read _ _
-    (judged-here _ _ _ _ _ _ (c .before .before .before .before .before .before .before .loop .inv) false _ _ _ (c .before .before .before .before .before .rest .ensures) (c .before .before .before .before .first-at .ensures .0) (c .before .before .before .before .before .before .loop-test .taken) (c .before .before .before .front .ensures) (c .before .before .before .before .before .before .before .before .before .before .pre .0))
+    (judged-here _ _ _ _ _ _ (c .before .before .before .before .before .before .before .loop .inv) Counts _ _ _ (c .before .before .before .before .before .rest .ensures) (c .before .before .before .before .first-at .ensures .0) (c .before .before .before .before .before .before .loop-test .taken) (c .before .before .before .front .ensures) (c .before .before .before .before .before .before .before .before .before .before .pre .0))
     (sym (c .before .before .read-count .ensures) ∙ c .enum-told .given .1)
 
 -- there are no more words than places

@@ -1,7 +1,7 @@
--- `lending::storing::store_numbers` meets its contract. Assumes nothing.
+-- `lending::storing::store_numbers` meets its contract.
 use Prim.Native.Nat.{_+_, _-_, _<_}
 use mathlib.Core.Path.{_≡_, sym, _∙_}
-use mathlib.Core.Bool.{true}
+use Rattle.commands.specs.declared.rows.Kind.the-variants.{Numbers}
 use native.Mathlib.Omega.{arith}
 use lib.ListN.{length}
 use mir.Syntax.{w32}
@@ -31,7 +31,7 @@ same-length c = c .before .before .before .before .before .before .before .loop 
 returns : tie.Need-returns Inv-loop μ-loop
 returns c =
     whole-read _ _
-    (judged-here _ _ _ _ _ _ (c .before .before .before .before .before .before .before .loop .inv) true _ _ _ (c .before .before .before .before .before .rest .ensures) (c .before .before .before .before .first-at .ensures .0) (c .before .before .before .before .before .before .loop-test .taken) (c .before .before .before .front .ensures) (c .before .before .before .before .before .before .before .before .before .pre .0))
+    (judged-here _ _ _ _ _ _ (c .before .before .before .before .before .before .before .loop .inv) Numbers _ _ _ (c .before .before .before .before .before .rest .ensures) (c .before .before .before .before .first-at .ensures .0) (c .before .before .before .before .before .before .loop-test .taken) (c .before .before .before .front .ensures) (c .before .before .before .before .before .before .before .before .before .pre .0))
     (sym (c .before .before .read-signed .ensures) ∙ c .enum-told .given .1)
 
 -- there are no more words than places

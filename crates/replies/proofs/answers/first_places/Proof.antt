@@ -1,4 +1,4 @@
--- `replies::answers::first_places` meets its contract. Assumes nothing.
+-- `replies::answers::first_places` meets its contract.
 use mathlib.Core.Path.{refl, sym}
 use native.Mathlib.Omega.{arith}
 use lib.Seq.{length-take-le, take-all}

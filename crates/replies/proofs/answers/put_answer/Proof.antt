@@ -1,10 +1,10 @@
--- `replies::answers::put_answer` meets its contract. Assumes nothing.
+-- `replies::answers::put_answer` meets its contract.
 use mathlib.Core.Path.{ap}
 use native.Mathlib.Omega.{arith}
 use borrow.Author.Needs.{needs}
 use Rattle.scan.specs.Ascii.{bytes}
-use Rattle.files.specs.Decimal.{countsText}
-use Rattle.files.proofs.PageLaws.{puts-both, puts-on, puts-same, puts-case}
+use Rattle.pages.specs.Spaced.{countsText}
+use Rattle.pages.proofs.PageLaws.{puts-both, puts-on, puts-same, puts-case}
 use Rattle.search.specs.declared.Answer.{Answer}
 use Rattle.replies.specs.Replies.{answerLine}
 use Rattle.replies.proofs.answers.put_answer.Statement.{statement}

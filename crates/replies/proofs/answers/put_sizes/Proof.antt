@@ -1,8 +1,8 @@
--- `replies::answers::put_sizes` meets its contract. Assumes nothing.
+-- `replies::answers::put_sizes` meets its contract.
 use native.Mathlib.Omega.{arith}
 use borrow.Author.Needs.{needs}
 use Rattle.scan.specs.Ascii.{bytes}
-use Rattle.files.proofs.PageLaws.{puts-both, puts-on}
+use Rattle.pages.proofs.PageLaws.{puts-both, puts-on}
 use Rattle.replies.specs.Replies.{sizesLine}
 use Rattle.replies.proofs.answers.put_sizes.Statement.{statement}
 use Rattle.replies.proofs.answers.put_sizes.Tie as tie

@@ -1,8 +1,8 @@
--- `replies::words::put_fault` meets its contract. Assumes nothing.
+-- `replies::words::put_fault` meets its contract.
 use native.Mathlib.Omega.{arith}
 use borrow.Author.Needs.{needs}
 use Rattle.scan.specs.Ascii.{bytes}
-use Rattle.files.proofs.PageLaws.{puts-case}
+use Rattle.pages.proofs.PageLaws.{puts-case}
 use Rattle.replies.specs.Replies.{faultLine}
 use Rattle.replies.proofs.words.put_fault.Statement.{statement}
 use Rattle.replies.proofs.words.put_fault.Tie as tie

@@ -1,8 +1,8 @@
--- `replies::words::put_help` meets its contract. Assumes nothing.
+-- `replies::words::put_help` meets its contract.
 use native.Mathlib.Omega.{arith}
 use borrow.Author.Needs.{needs}
 use Rattle.scan.specs.Ascii.{bytes}
-use Rattle.files.proofs.PageLaws.{puts-both}
+use Rattle.pages.proofs.PageLaws.{puts-both}
 use Rattle.replies.specs.Replies.{helpLine}
 use Rattle.replies.proofs.words.put_help.Statement.{statement}
 use Rattle.replies.proofs.words.put_help.Tie as tie

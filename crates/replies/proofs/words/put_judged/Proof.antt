@@ -1,7 +1,7 @@
--- `replies::words::put_judged` meets its contract. Assumes nothing.
+-- `replies::words::put_judged` meets its contract.
 use native.Mathlib.Omega.{arith}
 use borrow.Author.Needs.{needs}
-use Rattle.files.proofs.PageLaws.{puts-case}
+use Rattle.pages.proofs.PageLaws.{puts-case}
 use Rattle.replies.specs.Replies.{judgedLine}
 use Rattle.replies.proofs.words.put_judged.Statement.{statement}
 use Rattle.replies.proofs.words.put_judged.Tie as tie

@@ -1,4 +1,4 @@
--- `replies::words::put_ok` meets its contract. Assumes nothing.
+-- `replies::words::put_ok` meets its contract.
 use native.Mathlib.Omega.{arith}
 use borrow.Author.Needs.{needs}
 use Rattle.scan.specs.Ascii.{bytes}

@@ -1,4 +1,4 @@
--- `search::find::find` meets its contract: what the run and the trace give is an answer. Assumes nothing.
+-- `search::find::find` meets its contract: what the run and the trace give is an answer.
 use native.Mathlib.Omega.{arith}
 use borrow.Author.Needs.{needs}
 use borrow.Author.Tests.{not-true, not-false}

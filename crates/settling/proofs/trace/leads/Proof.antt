@@ -1,7 +1,7 @@
--- `settling::trace::leads` meets its contract. Assumes nothing.
+-- `settling::trace::leads` meets its contract.
 use mathlib.Core.Path.{sym}
 use borrow.Author.Needs.{needs}
-use Rattle.settling.specs.TraceLaws.{fits-yes, fits-no}
+use Rattle.settling.proofs.TraceSteps.{fits-yes, fits-no}
 use Rattle.settling.proofs.trace.leads.Statement.{statement}
 use Rattle.settling.proofs.trace.leads.Tie as tie
 

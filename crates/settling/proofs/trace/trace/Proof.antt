@@ -1,119 +1,114 @@
--- `settling::trace::trace` meets its contract. The loop's invariant: the rest of the trace gives the whole route. Assumes nothing.
-use Prim.Native.Nat.{_+_, _-_, _≤_}
+-- `settling::trace::trace` meets its contract. The loop's invariant: the rest of the trace gives the whole route.
+use Prim.Native.Nat.{ℕ, _+_, _*_, _-_, _≤_}
 use native.Mathlib.Omega.{arith}
-use borrow.Author.Needs.{needs}
 use mathlib.Core.Path.{_≡_, refl, sym, _∙_}
-use lib.ListN.{length, length-set}
-use Rattle.settling.specs.Trace.{traceOf}
-use Rattle.settling.specs.TraceLaws.{into-in, trace-over, trace-stuck, trace-on}
+use mathlib.Core.List.{[]}
+use lib.ListN.{length as length′, length-set, length-replicate}
 use Rattle.walks.specs.Rows.{rows}
+use Rattle.settling.specs.Labels.{labels}
+use Rattle.settling.specs.Trace.{traceOf}
 use Rattle.settling.specs.Toward.{keeps}
+use Rattle.settling.proofs.TraceSteps.{into-in, trace-over, trace-stuck, trace-on}
+use Rattle.settling.proofs.Widen.{heads-ends}
+use Rattle.settling.proofs.AlongChains.{trace-unmarked}
+use borrow.Author.Needs.{needs}
 use Rattle.settling.proofs.trace.trace.Statement.{statement}
 use Rattle.settling.proofs.trace.trace.Tie as tie
 
 abbrev Inv-loop : tie.InvT-loop
-Inv-loop t m tails heads weights toward boxes route₀ labels count v₀ k₀ route v k =
+Inv-loop t m tails heads weights toward boxes route₀ first next count length arcs v₀ k₀ route v k =
     (1 ≤ v)
     × (v ≤ 512)
     × (k ≤ count)
-    × (count ≤ length route)
-    × (length route ≡ length route₀)
-    × (traceOf (rows tails heads weights) (keeps toward boxes) m labels k v route ≡ traceOf (rows tails heads weights) (keeps toward boxes) m labels k₀ v₀ route₀)
+    × (4 * count ≤ 18_446_744_073_709_551_615)
+    × (count ≤ length′ route)
+    × (length′ route ≡ length′ route₀)
+    × (traceOf (rows tails heads weights) (keeps toward boxes) m (labels length arcs []) k v route ≡ traceOf (rows tails heads weights) (keeps toward boxes) m (labels length arcs []) k₀ v₀ route₀)
 
 abbrev μ-loop : tie.MeasureT-loop
-μ-loop t m tails heads weights toward boxes route₀ labels count v₀ k₀ route v k = k
+μ-loop t m tails heads weights toward boxes route₀ first next count length arcs v₀ k₀ route v k = k
 
--- the arc found is one of the first m
-arc :
-    (c : tie.After-known-told Inv-loop μ-loop) →
-    let e = c .before .into .given .0 .0 in (1 ≤ e) × (e ≤ c .before .before .before .before .before .before .before .before .before .before .before .args .m)
-arc c = into-in _ _ _ _ _ _ (sym (c .before .before .before .arc-into .ensures) ∙ c .before .into .given .1)
+-- the arc found is one of the network
+found : (c : tie.After-known-told Inv-loop μ-loop) → (1 ≤ c .before .into .given .0 .0) × (c .before .into .given .0 .0 ≤ c .before .before .before .before .before .before .before .before .before .before .before .before .before .before .before .before .before .before .before .before .args .m)
+found c = into-in _ _ _ _ _ _ (sym (c .before .before .before .arc-into .ensures) ∙ c .before .into .given .1)
 
-sub-count : tie.Need-sub-count Inv-loop μ-loop
-sub-count c = omega arith
-
-mul-count : tie.Need-mul-count Inv-loop μ-loop
-mul-count c = omega arith
-
-element-copy-out-count : tie.Need-element-copy-out-count Inv-loop μ-loop
-element-copy-out-count c = omega arith
+link-requires : tie.Need-link-requires Inv-loop μ-loop
+link-requires c κs =
+    (heads-ends (c .before .before .before .before .before .before .pre .2), refl, length-replicate {A = ℕ} 2_048 0)
 
 loop-holds : tie.Need-loop-holds Inv-loop μ-loop
-loop-holds c = (omega arith, omega arith, omega arith, omega arith, refl, refl)
+loop-holds c =
+    (c .before .before .before .before .before .before .before .before .before .before .pre .0, c .before .before .before .before .before .before .before .before .before .before .pre .1, omega arith, omega (arith, c .before .before .before .before .before .before .before .before .before .before .good, c .before .before .before .before .before .before .before .before .before .before .pre .4), c .before .before .before .before .before .before .before .before .before .before .pre .4, refl, refl)
 
 arc-into-requires : tie.Need-arc-into-requires Inv-loop μ-loop
 arc-into-requires c κs =
-    let p = c .before .before .before .before .before .before .before .pre in
-    (omega arith, omega arith, p .2, p .3)
+    let i = c .before .before .before .before .before .loop in (i .inv .0, i .inv .1, c .before .before .before .before .before .before .before .before .before .before .before .before .before .before .before .before .pre .2, c .before .before .before .before .before .before .before .before .before .before .before .before .before .before .before .before .pre .3, c .before .before .before .before .before .before .before .before .before .link .ensures)
 
 same-length : tie.Need-same-length Inv-loop μ-loop
-same-length c = omega arith
+same-length c = c .before .before .before .before .before .before .before .before .loop .inv .5
 
 returns : tie.Need-returns Inv-loop μ-loop
 returns c =
-    let a = c .before .before .before .before .before .before .before .before .before .before .args in
-    let i = c .before .before .before .before .loop in
+    let a = c .before .before .before .before .before .before .before .before .before .before .before .before .before .before .before .before .before .before .before .args in
+    let i = c .before .before .before .before .before .before .before .before .loop in
     let R = rows (a .tails .now) (a .heads .now) (a .weights .now) in
+    let K = keeps (a .toward) (a .boxes .now) in
+    let L = a .t1 in
+    let z : i .k - 1 + 1 ≡ i .k = omega (arith, c .before .before .before .before .before .before .before .loop-test .taken) in
     let q = sym (c .before .before .arc-into .ensures) ∙ c .enum-told .given .1 in
-    let z : i .k - 1 + 1 ≡ i .k = omega arith in
-    sym (trace-stuck R (keeps (a .toward) (a .boxes .now)) (a .m) (a .t1) (i .v) (i .route) (i .k - 1) q) ∙ rw z (i .inv .5)
-
-sub-at : tie.Need-sub-at Inv-loop μ-loop
-sub-at c = omega arith
+    (sym (trace-stuck R K (a .m) (labels (L .length) (L .arcs) []) (i .v) (i .route) (i .k - 1) q) ∙ rw z (i .inv .6)) ∙ trace-unmarked R K (a .m) L _ _ _
 
 cast-route : tie.Need-cast-route Inv-loop μ-loop
-cast-route c = let h = arc c in omega (arith, c .before .before .before .before .before .before .before .before .before .before .before .pre .2)
-
-mul-route : tie.Need-mul-route Inv-loop μ-loop
-mul-route c = omega arith
-
-slice-write-route : tie.Need-slice-write-route Inv-loop μ-loop
-slice-write-route c = omega arith
+cast-route c =
+    let h = found c in omega (arith, h .0, h .1, c .before .before .before .before .before .before .before .before .before .before .before .before .before .before .before .before .before .before .before .before .pre .2)
 
 sub-v : tie.Need-sub-v Inv-loop μ-loop
-sub-v c = let h = arc c in omega (arith, c .before .before .before .before .before .before .before .before .before .before .before .pre .2)
+sub-v c =
+    let h = found c in omega (arith, h .0, h .1, c .before .before .before .before .before .before .before .before .before .before .before .before .before .before .before .before .before .before .before .before .pre .2)
 
 mul-v : tie.Need-mul-v Inv-loop μ-loop
-mul-v c = let h = arc c in omega (arith, c .before .before .before .before .before .before .before .before .before .before .before .pre .2)
+mul-v c =
+    let h = found c in omega (arith, h .0, h .1, c .before .before .before .before .before .before .before .before .before .before .before .before .before .before .before .before .before .before .before .before .pre .2)
 
 shared-slice-read-v : tie.Need-shared-slice-read-v Inv-loop μ-loop
-shared-slice-read-v c = let h = arc (c .before) in omega (arith, c .before .before .before .before .before .before .before .before .before .before .before .before .pre .2)
+shared-slice-read-v c =
+    let h = found (c .before) in omega (arith, h .0, h .1, c .before .before .before .before .before .before .before .before .before .before .before .before .before .before .before .before .before .before .before .before .before .pre .2)
 
 cast-v : tie.Need-cast-v Inv-loop μ-loop
 cast-v c = omega (arith, c .shared-slice-known4 .given (c .before .before .into .given .0 .0 - 1))
 
-sub-k : tie.Need-sub-k Inv-loop μ-loop
-sub-k c = omega arith
-
-loop-less : tie.Need-loop-less Inv-loop μ-loop
-loop-less c = omega arith
-
 loop-again : tie.Need-loop-again Inv-loop μ-loop
 loop-again c =
-    let a = c .before .before .before .before .before .before .before .before .before .before .before .before .args in
-    let i = c .before .before .before .before .before .before .loop in
+    let a = c .before .before .before .before .before .before .before .before .before .before .before .before .before .before .before .before .before .before .before .before .before .args in
+    let i = c .before .before .before .before .before .before .before .before .before .before .loop in
     let R = rows (a .tails .now) (a .heads .now) (a .weights .now) in
+    let K = keeps (a .toward) (a .boxes .now) in
+    let L = a .t1 in
+    let h = found (c .before) in
+    let z : i .k - 1 + 1 ≡ i .k = omega (arith, c .before .before .before .before .before .before .before .before .before .loop-test .taken) in
     let e = c .before .before .into .given .0 .0 in
-    let h = arc (c .before) in
-    let s = c .before .before .before .before .before .before .before .before .before .before .before .before .pre .2 .arcs e (h .0) (h .1) in
-    let q = sym (c .before .before .before .before .arc-into .ensures) ∙ c .before .before .into .given .1 in
-    let z : i .k - 1 + 1 ≡ i .k = omega arith in (
+    let s = c .before .before .before .before .before .before .before .before .before .before .before .before .before .before .before .before .before .before .before .before .before .pre .2 .arcs e (h .0) (h .1) in (
       s .tail-low,
       s .tail-high,
-      omega arith,
-      simp length-set (omega arith),
+      omega (arith, i .inv .2),
+      i .inv .3,
       simp length-set (i .inv .4),
-      sym (trace-on R (keeps (a .toward) (a .boxes .now)) (a .m) (a .t1) (i .v) (i .route) (i .k - 1) e q) ∙ rw z (i .inv .5),
+      simp length-set (i .inv .5),
+      sym (trace-on R K (a .m) (labels (L .length) (L .arcs) []) (i .v) (i .route) (i .k - 1) e (sym (c .before .before .before .before .arc-into .ensures) ∙ c .before .before .into .given .1)) ∙ rw z (i .inv .6),
     )
 
 same-length-2 : tie.Need-same-length-2 Inv-loop μ-loop
-same-length-2 c = omega arith
+same-length-2 c = c .before .loop .inv .5
 
 returns-2 : tie.Need-returns-2 Inv-loop μ-loop
 returns-2 c =
+    let a = c .before .before .before .before .before .before .before .before .before .before .before .before .args in
     let i = c .before .loop in
+    let R = rows (a .tails .now) (a .heads .now) (a .weights .now) in
+    let K = keeps (a .toward) (a .boxes .now) in
+    let L = a .t1 in
     let z : i .k ≡ 0 = omega arith in
-    sym (trace-over _ _ _ _ _ _) ∙ rw z at (i .inv .5)
+    (sym (trace-over _ _ _ _ _ _) ∙ rw z at (i .inv .6)) ∙ trace-unmarked R K (a .m) L _ _ _
 
 pub trace-spec : {M : Type 1} → statement M
 trace-spec =
@@ -121,25 +116,22 @@ trace-spec =
     (tie.spec
     Inv-loop
     μ-loop
-    sub-count
-    mul-count
-    element-copy-out-count
     (λ c. search needs)
+    link-requires
+    (λ c. search needs) (λ c. search needs) (λ c. search needs) (λ c. search needs)
     loop-holds
     arc-into-requires
     (λ c. search needs) (λ c. search needs)
     same-length
     returns
-    sub-at
+    (λ c. search needs)
     cast-route
-    mul-route
-    slice-write-route
+    (λ c. search needs) (λ c. search needs)
     sub-v
     mul-v
     shared-slice-read-v
     cast-v
-    sub-k
-    loop-less
+    (λ c. search needs) (λ c. search needs)
     loop-again
     same-length-2
     returns-2)

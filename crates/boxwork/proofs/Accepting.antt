@@ -1,0 +1,64 @@
+-- Calls that are accepted: what their replies tell, and that the boxes they leave are judged fine and hold their S(e).
+use Prim.Native.Nat.{ℕ, _≤_}
+use mathlib.Core.Path.{_≡_, refl, sym, ap}
+use mathlib.Core.List.{List, []}
+use lib.IntN.{ℤ}
+use Rattle.rules.specs.Paper.{Reply, accepted, refusal}
+use Rattle.rules.proofs.PaperLaws.{refusal-nonzero}
+use Rattle.rules.specs.declared.Judged.the-variants.{Fine}
+use Rattle.rules.specs.declared.Refusal.{Refusal}
+use Rattle.rules.specs.declared.Refusal.the-variants.{BoxMisses}
+use Rattle.walks.specs.Rows.{Rows, network}
+use Rattle.walks.specs.Through.{InS, Consistent}
+use Rattle.geometry.specs.Box.{Within}
+use Rattle.geometry.specs.Row.{coordinate}
+use Rattle.drawing.specs.Drawn.{Drawn, boxRow}
+use Rattle.boxwork.specs.Tight.{Tight, Updated, HoldsNode}
+use Rattle.judging.specs.Order.{buildJudged, checkJudged, updateJudged}
+use Rattle.boxwork.specs.Says.{BuildSays, CheckSays, UpdateSays, reweighted}
+use Rattle.judging.proofs.StageLaws.{BoxesLent as Lent, Shaped, lent-after}
+use Rattle.judging.proofs.FineLaws.{shaped-judged}
+use Rattle.boxwork.proofs.TightLaws.{inS-range, tight-holds, tight-shaped, updated-holds, updated-shaped}
+
+-- ---- A refusal is not an accepting reply
+
+refusal-other : (r : Refusal) {results : List ℕ} → refusal r ≡ accepted results → ⊥
+refusal-other r e = refusal-nonzero r (ap (λ (z : Reply). z .number) (sym e))
+
+module _ {n m : ℕ} {R : Rows} {x y boxes : List ℤ} where
+  pub check-accepts : {reply : Reply} → CheckSays n m R x y boxes reply → reply ≡ accepted [] → (checkJudged n m R x y boxes ≡ Fine) × Consistent (network m R) (HoldsNode x y boxes)
+  check-accepts (CheckSays.refused {r = r} e) p = absurd (refusal-other r p)
+  check-accepts (CheckSays.consistent f c) p = (f, c)
+  check-accepts (CheckSays.missed {e = e} {t = t} f d) p = absurd (refusal-other (BoxMisses e t) p)
+
+  pub build-accepts : {reply : Reply} {after : List ℤ} → BuildSays n m R x y boxes reply after → reply ≡ accepted []
+      → (buildJudged n m R x y boxes ≡ Fine) × Drawn boxRow m (λ e old new. Tight (network m R) x y e new) boxes after
+  build-accepts (BuildSays.refused {r = r} e) p = absurd (refusal-other r p)
+  build-accepts (BuildSays.built f d) p = (f, d)
+
+  pub update-accepts : {arc weight : ℕ} {reply : Reply} {weights : List ℕ} {after : List ℤ} → UpdateSays n m R x y boxes arc weight reply weights after → reply ≡ accepted []
+      → (updateJudged n m R x y boxes arc weight ≡ Fine) × (weights ≡ reweighted R arc weight .weights) × Drawn boxRow m (Updated (network m (reweighted R arc weight)) x y) boxes after
+  update-accepts (UpdateSays.refused {r = r} e) p = absurd (refusal-other r p)
+  update-accepts (UpdateSays.updated f d) p = (f, refl, d)
+
+-- ---- What is left by a build, and by an update
+
+module _ {n m : ℕ} {R : Rows} {x y boxes : List ℤ} (l : Lent n m R x y boxes) where
+  head-within : (e : ℕ) → 1 ≤ e → e ≤ m → Within (coordinate x (network m R .head e)) × Within (coordinate y (network m R .head e))
+  unfolding network
+  head-within e low high = let a = l .sound .arcs e low high in l .places _ (a .head-low) (a .head-high)
+
+  nodes-within : (e t : ℕ) → InS (network m R) e t → Within (coordinate x t) × Within (coordinate y t)
+  nodes-within e t i = let r = inS-range (l .sound) i in l .places t (r .2) (r .3)
+
+  pub tight-accepted : {after : List ℤ} → Drawn boxRow m (λ e old new. Tight (network m R) x y e new) boxes after → CheckSays n m R x y after (accepted [])
+  tight-accepted {after} d =
+      CheckSays.consistent
+      (shaped-judged n m R x y after (lent-after (d .long) l) (λ e low high. tight-shaped (head-within e low high) (nodes-within e) (d .entries e low high)))
+      (record { keeps = λ e t i. let r = inS-range (l .sound) i in tight-holds (d .entries e (r .0) (r .1)) i })
+
+  pub updated-accepted : {after : List ℤ} → Shaped m boxes → Drawn boxRow m (Updated (network m R) x y) boxes after → CheckSays n m R x y after (accepted [])
+  updated-accepted {after} shaped d =
+      CheckSays.consistent
+      (shaped-judged n m R x y after (lent-after (d .long) l) (λ e low high. updated-shaped (head-within e low high) (nodes-within e) (shaped e low high) (d .entries e low high)))
+      (record { keeps = λ e t i. let r = inS-range (l .sound) i in updated-holds (d .entries e (r .0) (r .1)) i })

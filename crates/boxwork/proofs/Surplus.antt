@@ -1,0 +1,163 @@
+-- Surplus is neither read nor written: build, check and update are those over the rows cut to the places that are needed, and the
+-- places beyond keep their contents.
+use Prim.Native.Nat.{ℕ, zero, suc, _+_, _-_, _*_, _≤_, min}
+use mathlib.Core.Path.{_≡_, refl, sym, ap, _∙_, subst}
+use mathlib.Core.Logic.{inl, inr, ⊎-elim}
+use mathlib.Core.List.{List, [], _∷_}
+use native.Mathlib.Omega.{arith}
+use lib.IntN.{ℤ, pos}
+use lib.ListN.{length, take, drop, length-take, length-drop}
+use lib.Seq.{getD-drop, ext-getD, take-set-lt, drop-set-lt}
+use Rattle.rules.specs.Paper.{Reply}
+use Rattle.walks.specs.Rows.{Rows, Sound, network}
+use Rattle.walks.specs.Through.{InS}
+use Rattle.walks.specs.Checking.{Misses}
+use Rattle.geometry.specs.Box.{Box}
+use Rattle.geometry.specs.Row.{number, boxOf}
+use Rattle.geometry.proofs.SmallestLaws.{smallest-same}
+use Rattle.search.proofs.Alike.{other-way, inS-alike}
+use Rattle.judging.specs.Cut.{cut}
+use Rattle.judging.proofs.CutLaws.{place-cut, box-cut, build-judged-cut, check-judged-cut, update-judged-cut}
+use Rattle.search.proofs.Cut.{network-cut}
+use Rattle.drawing.specs.Drawn.{Drawn, boxRow}
+use Rattle.boxwork.specs.Tight.{PlaceOf, Tight, Updated, HoldsNode}
+use Rattle.boxwork.proofs.TightLaws.{inS-range}
+use Rattle.judging.proofs.FineLaws.{build-fine, check-fine, update-fine}
+use Rattle.boxwork.proofs.ReweightedLaws.{sound-reweighted}
+use Rattle.boxwork.specs.Says.{BuildSays, CheckSays, UpdateSays, reweighted}
+use Rattle.boxwork.proofs.SaysLaws.{build-unique, check-unique, update-unique}
+
+-- ---- The row of boxes
+
+-- two rows whose places from k on agree have the same rest
+drop-same : (k : ℕ) (a b : List ℤ) → length a ≡ length b → ((i : ℕ) → k ≤ i → number a i ≡ number b i) → drop k a ≡ drop k b
+drop-same k a b long h =
+    ext-getD (pos 0) (drop k a) (drop k b) (simp length-drop (ap (λ (l : ℕ). l - k) long)) (λ i l. getD-drop k a i (pos 0) ∙ (h (k + i) (omega arith) ∙ sym (getD-drop k b i (pos 0))))
+
+-- past the places that are kept, a row that is cut has nothing
+past-cut : (k : ℕ) (row : List ℤ) (i : ℕ) → k ≤ i → number (take k row) i ≡ pos 0
+past-cut zero row i h = refl
+past-cut (suc k) [] i h = refl
+past-cut (suc k) (z ∷ row) zero h = absurd (omega arith)
+past-cut (suc k) (z ∷ row) (suc i) h = past-cut k row i (omega arith)
+
+drawn-cut : {Is Js : ℕ → Box → Box → Type 0} {m : ℕ} {before after : List ℤ}
+    → ((e : ℕ) → 1 ≤ e → e ≤ m → Is e (boxOf before e) (boxOf after e) → Js e (boxOf before e) (boxOf after e))
+    → Drawn boxRow m Is before after → Drawn boxRow m Js (take (4 * m) before) (take (4 * m) after) × (drop (4 * m) after ≡ drop (4 * m) before)
+drawn-cut {Js = Js} {m = m} {before = before} {after = after} h d = (
+  record {
+    entries = λ e low high.
+        subst (λ (b : Box). Js e b (boxOf (take (4 * m) after) e)) (sym (box-cut m before e low high))
+        (subst (Js e (boxOf before e)) (sym (box-cut m after e low high)) (h e low high (d .entries e low high)));
+    rest = λ i h. past-cut (4 * m) after i h ∙ sym (past-cut (4 * m) before i h);
+    long = length-take (4 * m) after ∙ (ap (λ (l : ℕ). min (4 * m) l) (d .long) ∙ sym (length-take (4 * m) before));
+  },
+  drop-same (4 * m) after before (d .long) (d .rest),
+)
+
+-- ---- Boxes, and what they hold
+
+module _ {n m : ℕ} {R : Rows} (sound : Sound n m R) (x y : List ℤ) where
+  place-there : (node : ℕ) → 1 ≤ node → node ≤ n → {px py : ℤ} → PlaceOf x y node px py → PlaceOf (take n x) (take n y) node px py
+  place-there node low high p = (p .0 ∙ sym (place-cut n x node low high), p .1 ∙ sym (place-cut n y node low high))
+
+  place-back : (node : ℕ) → 1 ≤ node → node ≤ n → {px py : ℤ} → PlaceOf (take n x) (take n y) node px py → PlaceOf x y node px py
+  place-back node low high p = (p .0 ∙ place-cut n x node low high, p .1 ∙ place-cut n y node low high)
+
+  inS-back : {e t : ℕ} → InS (network m (cut m R)) e t → InS (network m R) e t
+  inS-back i = inS-alike (other-way (network-cut m R)) i
+
+  module _ (e : ℕ) (low : 1 ≤ e) (high : e ≤ m) where
+    head-same : network m R .head e ≡ network m (cut m R) .head e
+    unfolding network
+    head-same = network-cut m R .head e (low, high)
+
+    head-low : 1 ≤ network m R .head e
+    unfolding network
+    head-low = sound .arcs e low high .head-low
+
+    head-high : network m R .head e ≤ n
+    unfolding network
+    head-high = sound .arcs e low high .head-high
+
+    pub tight-cut : {b : Box} → Tight (network m R) x y e b → Tight (network m (cut m R)) (take n x) (take n y) e b
+    tight-cut p = record {
+      smallest = smallest-same
+          (λ px py. ⊎-elim
+          (λ h. inl (subst (λ (v : ℕ). PlaceOf (take n x) (take n y) v px py) head-same (place-there _ head-low head-high h)))
+          (λ s. let r = inS-range sound (s .member) in inr (record { node = s .node; member = inS-alike (network-cut m R) (s .member); place = place-there (s .node) (r .2) (r .3) (s .place) })))
+          (λ px py. ⊎-elim
+          (λ h. inl (place-back _ head-low head-high (subst (λ (v : ℕ). PlaceOf (take n x) (take n y) v px py) (sym head-same) h)))
+          (λ s. let i = inS-back (s .member) in let r = inS-range sound i in inr (record { node = s .node; member = i; place = place-back (s .node) (r .2) (r .3) (s .place) })))
+          (p .smallest);
+    }
+
+    pub updated-cut : {old new : Box} → Updated (network m R) x y e old new → Updated (network m (cut m R)) (take n x) (take n y) e old new
+    updated-cut p = record { tight = p .tight; is-tight = tight-cut (p .is-tight); smallest = p .smallest }
+
+  module _ (boxes : List ℤ) where
+    holds-there : (e t : ℕ) → InS (network m R) e t → HoldsNode x y boxes e t → HoldsNode (take n x) (take n y) (take (4 * m) boxes) e t
+    holds-there e t i h = let r = inS-range sound i in rw (box-cut m boxes e (r .0) (r .1), place-cut n x t (r .2) (r .3), place-cut n y t (r .2) (r .3)) h
+
+    holds-back : (e t : ℕ) → InS (network m R) e t → HoldsNode (take n x) (take n y) (take (4 * m) boxes) e t → HoldsNode x y boxes e t
+    holds-back e t i h = let r = inS-range sound i in rw (box-cut m boxes e (r .0) (r .1), place-cut n x t (r .2) (r .3), place-cut n y t (r .2) (r .3)) at h
+
+    misses-there : {e t : ℕ} → Misses (network m R) (HoldsNode x y boxes) e t → Misses (network m (cut m R)) (HoldsNode (take n x) (take n y) (take (4 * m) boxes)) e t
+    misses-there {e} {t} h = record { member = inS-alike (network-cut m R) (h .member); refused = λ k. h .refused (holds-back e t (h .member) k) }
+
+    misses-back : {e t : ℕ} → Misses (network m (cut m R)) (HoldsNode (take n x) (take n y) (take (4 * m) boxes)) e t → Misses (network m R) (HoldsNode x y boxes) e t
+    misses-back {e} {t} h = let i = inS-back (h .member) in record { member = i; refused = λ k. h .refused (holds-there e t i k) }
+
+-- ---- The laws
+
+module _ {n m : ℕ} {R : Rows} {x y boxes : List ℤ} where
+  pub build-cut : {reply : Reply} {after : List ℤ} → BuildSays n m R x y boxes reply after
+      → BuildSays n m (cut m R) (take n x) (take n y) (take (4 * m) boxes) reply (take (4 * m) after) × (drop (4 * m) after ≡ drop (4 * m) boxes)
+  build-cut (BuildSays.refused e) = (BuildSays.refused (build-judged-cut n m R x y boxes ∙ e), refl)
+  build-cut (BuildSays.built f d) =
+      let l = build-fine n m R x y boxes f in
+      let r = drawn-cut {Is = λ e old new. Tight (network m R) x y e new} {Js = λ e old new. Tight (network m (cut m R)) (take n x) (take n y) e new} (λ e low high. tight-cut (l .sound) x y e low high) d in
+      (BuildSays.built (build-judged-cut n m R x y boxes ∙ f) (r .0), r .1)
+
+  pub check-cut : {reply : Reply} → CheckSays n m R x y boxes reply → CheckSays n m (cut m R) (take n x) (take n y) (take (4 * m) boxes) reply
+  check-cut (CheckSays.refused e) = CheckSays.refused (check-judged-cut n m R x y boxes ∙ e)
+  check-cut (CheckSays.consistent f c) =
+      let l = build-fine n m R x y boxes (check-fine n m R x y boxes f .0) in
+      CheckSays.consistent (check-judged-cut n m R x y boxes ∙ f)
+      (record { keeps = λ e t i. let j = inS-back (l .sound) x y i in holds-there (l .sound) x y boxes e t j (c .keeps e t j) })
+  check-cut (CheckSays.missed f h) =
+      let l = build-fine n m R x y boxes (check-fine n m R x y boxes f .0) in
+      CheckSays.missed (check-judged-cut n m R x y boxes ∙ f)
+      (record {
+        misses = misses-there (l .sound) x y boxes (h .misses);
+        lowest-arc = λ i j k. h .lowest-arc i j (misses-back (l .sound) x y boxes k);
+        lowest-node = λ j k. h .lowest-node j (misses-back (l .sound) x y boxes k);
+      })
+
+  pub update-cut : {arc weight : ℕ} {reply : Reply} {weights : List ℕ} {after : List ℤ} → UpdateSays n m R x y boxes arc weight reply weights after
+      → UpdateSays n m (cut m R) (take n x) (take n y) (take (4 * m) boxes) arc weight reply (take m weights) (take (4 * m) after)
+      × (drop m weights ≡ drop m (R .weights)) × (drop (4 * m) after ≡ drop (4 * m) boxes)
+  update-cut {arc} {weight} (UpdateSays.refused e) = (UpdateSays.refused (update-judged-cut n m R x y boxes arc weight ∙ e), refl, refl)
+  update-cut {arc} {weight} (UpdateSays.updated {after = after} f d) =
+      let u = update-fine n m R x y boxes arc weight f in
+      let l = build-fine n m R x y boxes (check-fine n m R x y boxes (u .0) .0) in
+      let S = reweighted R arc weight in
+      let same : take m (S .weights) ≡ reweighted (cut m R) arc weight .weights = take-set-lt m (R .weights) (arc - 1) weight (omega (arith, u .1, u .2)) in
+      let r = drawn-cut {Is = Updated (network m S) x y} {Js = Updated (network m (cut m S)) (take n x) (take n y)} (λ e low high. updated-cut (sound-reweighted (l .sound) arc weight (u .1) (u .2) (u .3)) x y e low high) d in
+      (rw same (UpdateSays.updated (update-judged-cut n m R x y boxes arc weight ∙ f) (rw same at (r .0))), drop-set-lt m (R .weights) (arc - 1) weight (omega (arith, u .1, u .2)), r .1)
+
+-- Two calls whose rows agree on the first m, n or 4m places have the same reply, and write the same there
+module _
+    (n m : ℕ) (R R′ : Rows) (x x′ y y′ boxes boxes′ : List ℤ)
+    (rows : cut m R ≡ cut m R′) (ex : take n x ≡ take n x′) (ey : take n y ≡ take n y′) (eb : take (4 * m) boxes ≡ take (4 * m) boxes′)
+    {reply reply′ : Reply}
+  where
+    pub build-surplus : {after after′ : List ℤ} → BuildSays n m R x y boxes reply after → BuildSays n m R′ x′ y′ boxes′ reply′ after′ → (reply ≡ reply′) × (take (4 * m) after ≡ take (4 * m) after′)
+    build-surplus p q = build-unique (rw (rows, ex, ey, eb) at (build-cut p .0)) (build-cut q .0)
+
+    pub check-surplus : CheckSays n m R x y boxes reply → CheckSays n m R′ x′ y′ boxes′ reply′ → reply ≡ reply′
+    check-surplus p q = check-unique (rw (rows, ex, ey, eb) at (check-cut p)) (check-cut q)
+
+    pub update-surplus : {arc weight : ℕ} {weights weights′ : List ℕ} {after after′ : List ℤ} → UpdateSays n m R x y boxes arc weight reply weights after → UpdateSays n m R′ x′ y′ boxes′ arc weight reply′ weights′ after′
+        → (reply ≡ reply′) × (take m weights ≡ take m weights′) × (take (4 * m) after ≡ take (4 * m) after′)
+    update-surplus p q = update-unique (rw (rows, ex, ey, eb) at (update-cut p .0)) (update-cut q .0)

@@ -1,0 +1,80 @@
+-- The calls on a network: what each is replied, and what it leaves in its rows.
+use Prim.Native.Nat.{ℕ}
+use mathlib.Core.List.{List}
+use lib.IntN.{ℤ}
+use Rattle.walks.specs.Rows as walks
+use Rattle.rules.specs.Paper.{judgedReply}
+use Rattle.rules.specs.declared.Judged.{Judged}
+use Rattle.commands.specs.declared.Call.{Call}
+use Rattle.commands.specs.declared.Call.the-variants as call
+use Rattle.search.specs.Says.{SearchSays, BoxedSays}
+use Rattle.search.specs.Paper.{paper}
+use Rattle.search.specs.declared.Answer.{Answer}
+use Rattle.boxwork.specs.Says.{BuildSays, CheckSays, UpdateSays}
+use Rattle.replies.specs.Replies.{judgedLine, answerLine}
+use Rattle.calls.specs.declared.Sizes.{Sizes}
+use Rattle.calls.specs.declared.network.BoxWork.{BoxWork}
+use Rattle.calls.specs.declared.network.BoxWork.the-variants as work
+use Rattle.calls.specs.declared.network.Trip.{Trip}
+use Rattle.calls.specs.declared.network.Trip.the-variants as trip
+use Rattle.calls.specs.declared.network.Task.{Task}
+use Rattle.calls.specs.declared.network.Task.the-variants as task
+
+-- the call that box work, a search, either of them is
+abbrev pub workCall : BoxWork → Call
+workCall work.Build = call.Build
+workCall work.Check = call.Check
+workCall (work.Update arc weight) = call.Update arc weight
+
+abbrev pub tripCall : Trip → Call
+tripCall (trip.Plain s t) = call.Search s t
+tripCall (trip.Boxed s t) = call.Boxed s t
+
+abbrev pub taskCall : Task → Call
+taskCall (task.Boxes w) = workCall w
+taskCall (task.Route t) = tripCall t
+
+-- the contents of the rows that a call is given
+pub record Given : Type 0 where
+  pub tails : List ℕ
+  pub heads : List ℕ
+  pub weights : List ℕ
+  pub x : List ℤ
+  pub y : List ℤ
+  pub boxes : List ℤ
+  pub route : List ℕ
+
+abbrev pub given : List ℕ → List ℕ → List ℕ → List ℤ → List ℤ → List ℤ → List ℕ → Given
+given t h w x y b r = record { tails = t; heads = h; weights = w; x = x; y = y; boxes = b; route = r }
+
+-- the rows of the network
+abbrev pub arcs : Given → walks.Rows
+arcs g = walks.rows (g .tails) (g .heads) (g .weights)
+
+-- the same rows but for what a call has written
+abbrev pub withWeights : List ℕ → Given → Given
+withWeights w g = given (g .tails) (g .heads) w (g .x) (g .y) (g .boxes) (g .route)
+
+abbrev pub withBoxes : List ℤ → Given → Given
+withBoxes b g = given (g .tails) (g .heads) (g .weights) (g .x) (g .y) b (g .route)
+
+abbrev pub withRoute : List ℕ → Given → Given
+withRoute r g = given (g .tails) (g .heads) (g .weights) (g .x) (g .y) (g .boxes) r
+
+-- a call's answer in a line, and what it leaves in the rows
+pub data Makes (sizes : Sizes) (g : Given) : Call → List ℕ → Given → Type 0 where
+  build : (j : Judged) {boxes : List ℤ}
+      → BuildSays (sizes .n) (sizes .m) (arcs g) (g .x) (g .y) (g .boxes) (judgedReply j) boxes
+      → Makes sizes g call.Build (judgedLine j) (withBoxes boxes g)
+  check : (j : Judged)
+      → CheckSays (sizes .n) (sizes .m) (arcs g) (g .x) (g .y) (g .boxes) (judgedReply j)
+      → Makes sizes g call.Check (judgedLine j) g
+  update : {arc weight : ℕ} (j : Judged) {weights : List ℕ} {boxes : List ℤ}
+      → UpdateSays (sizes .n) (sizes .m) (arcs g) (g .x) (g .y) (g .boxes) arc weight (judgedReply j) weights boxes
+      → Makes sizes g (call.Update arc weight) (judgedLine j) (withBoxes boxes (withWeights weights g))
+  search : {s t : ℕ} (a : Answer) {route : List ℕ}
+      → SearchSays (sizes .n) (sizes .m) (arcs g) s t (g .route) (paper a) route
+      → Makes sizes g (call.Search s t) (answerLine a route) (withRoute route g)
+  boxed : {s t : ℕ} (a : Answer) {route : List ℕ}
+      → BoxedSays (sizes .n) (sizes .m) (arcs g) (g .x) (g .y) (g .boxes) s t (g .route) (paper a) route
+      → Makes sizes g (call.Boxed s t) (answerLine a route) (withRoute route g)

@@ -1,0 +1,49 @@
+-- Files that are read into rows: `gr` and `co`.
+use Prim.Native.Nat.{ℕ}
+use mathlib.Core.Path.{_≡_}
+use mathlib.Core.List.{List}
+use lib.IntN.{ℤ}
+use Rattle.pages.specs.Page.{Puts}
+use Rattle.files.specs.File.{Held, text, unread}
+use Rattle.wording.specs.Refusals.{refusalLine, noFileLine}
+use Rattle.dimacs.specs.Promise.{GrPromise, CoPromise}
+use Rattle.dimacs.specs.declared.GrReply.{GrReply}
+use Rattle.dimacs.specs.declared.GrReply.the-variants as graph
+use Rattle.dimacs.specs.declared.CoReply.{CoReply}
+use Rattle.dimacs.specs.declared.CoReply.the-variants as places
+use Rattle.replies.specs.Replies.{okLine, sizesLine}
+use Rattle.calls.specs.declared.Sizes.{Sizes}
+
+-- n and m of a graph file that was read, or why it was refused
+unfoldable pub graphLine : GrReply → List ℕ
+graphLine (graph.Read n m) = sizesLine n m
+graphLine (graph.Refused r) = refusalLine r
+
+-- the numbers from now on
+unfoldable pub graphSizes : GrReply → Sizes → Sizes
+graphSizes (graph.Read n m) sizes = record { n = n; m = m }
+graphSizes (graph.Refused r) sizes = sizes
+
+-- why a graph file was refused
+abbrev pub PutsRefused : GrReply → List ℕ → ℕ → List ℕ → Type 0
+PutsRefused (graph.Refused why) page end page′ = Puts (refusalLine why) 0 page end page′
+PutsRefused (graph.Read n m) page end page′ = record {}
+
+unfoldable pub placesLine : CoReply → List ℕ
+placesLine places.Read = okLine
+placesLine (places.Refused r) = refusalLine r
+
+-- the file is read into the arc rows, and gives n and m; where it is refused or not read, everything stays
+pub data ReadsGraph (held : Held) (sizes : Sizes) (tails heads weights : List ℕ) : List ℕ → Sizes → List ℕ → List ℕ → List ℕ → Type 0 where
+  no-file : held ≡ unread → ReadsGraph held sizes tails heads weights noFileLine sizes tails heads weights
+  file : {bytes : List ℕ} (r : GrReply) {tails′ heads′ weights′ : List ℕ}
+      → held ≡ text bytes
+      → GrPromise bytes tails heads weights r tails′ heads′ weights′
+      → ReadsGraph held sizes tails heads weights (graphLine r) (graphSizes r sizes) tails′ heads′ weights′
+
+pub data ReadsPlaces (held : Held) (n : ℕ) (x y : List ℤ) : List ℕ → List ℤ → List ℤ → Type 0 where
+  no-file : held ≡ unread → ReadsPlaces held n x y noFileLine x y
+  file : {bytes : List ℕ} (r : CoReply) {x′ y′ : List ℤ}
+      → held ≡ text bytes
+      → CoPromise bytes n x y r x′ y′
+      → ReadsPlaces held n x y (placesLine r) x′ y′

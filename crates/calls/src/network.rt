@@ -1,0 +1,107 @@
+// The calls on a network.
+ghost use Prim.Native.Nat.{ℕ, _≤_};
+ghost use mathlib.Core.Path.{_≡_};
+ghost use mathlib.Core.List.{List};
+ghost use lib.ListN.{length};
+ghost use Rattle.pages.specs.Page.{Printed};
+ghost use Rattle.calls.specs.Calls.{given, withWeights, withBoxes, withRoute, workCall, tripCall, taskCall, Makes};
+use crate::Sizes;
+use commands::Call;
+use pages::PAGE;
+use replies::answers::put_answer;
+use replies::words::put_judged;
+
+// The calls that write weights and boxes.
+pub enum BoxWork {
+    Build,
+    Check,
+    Update(u32, u32),
+}
+
+// The calls that write the route row alone.
+pub enum Trip {
+    Plain(u32, u32),
+    Boxed(u32, u32),
+}
+
+// A call by the rows that it writes.
+pub enum Task {
+    Boxes(BoxWork),
+    Route(Trip),
+}
+
+pub fn task_of(call: Call) -> Task
+    ensures { λ r. ⌜ taskCall r ≡ call ⌝ }
+{
+    match call {
+        Call::Build => Task::Boxes(BoxWork::Build),
+        Call::Check => Task::Boxes(BoxWork::Check),
+        Call::Update(arc, weight) => Task::Boxes(BoxWork::Update(arc, weight)),
+        Call::Search(s, t) => Task::Route(Trip::Plain(s, t)),
+        Call::Boxed(s, t) => Task::Route(Trip::Boxed(s, t)),
+    }
+}
+
+// Box work on rows, and its reply; whatever the route row holds.
+pub fn work_on_boxes(
+    page: &mut [u8; PAGE],
+    work: BoxWork,
+    sizes: Sizes,
+    tails: &[u32],
+    heads: &[u32],
+    weights: &mut [u32],
+    x: &[i32],
+    y: &[i32],
+    boxes: &mut [i32],
+) -> usize
+    ensures { λ r. ⌜ ((route : List ℕ) → let before = given (now (tails .entry)) (now (heads .entry)) (now (weights .entry)) (now (x .entry)) (now (y .entry)) (now (boxes .entry)) route in let after = withBoxes (now (boxes .exit)) (withWeights (now (weights .exit)) before) in Printed (λ reply. Makes sizes before (workCall work) reply after) (now (page .entry)) r (now (page .exit))) ⌝ }
+    ensures { λ r. ⌜ r ≤ 368640 ⌝ }
+{
+    let n = sizes.n;
+    let m = sizes.m;
+    match work {
+        BoxWork::Build => {
+            let j = boxwork::build(n, m, tails, heads, weights, x, y, boxes);
+            return put_judged(page, j);
+        }
+        BoxWork::Check => {
+            let j = boxwork::check(n, m, tails, heads, weights, x, y, boxes);
+            return put_judged(page, j);
+        }
+        BoxWork::Update(arc, weight) => {
+            let j = boxwork::update(n, m, tails, heads, weights, x, y, boxes, arc, weight);
+            return put_judged(page, j);
+        }
+    }
+}
+
+// A search on rows, and its reply.
+pub fn make_trip(
+    page: &mut [u8; PAGE],
+    trip: Trip,
+    sizes: Sizes,
+    tails: &[u32],
+    heads: &[u32],
+    weights: &[u32],
+    x: &[i32],
+    y: &[i32],
+    boxes: &[i32],
+    route: &mut [u32],
+) -> usize
+    requires { ⌜ length (now route) ≤ 16384 ⌝ }
+    ensures { λ r. let before = given (now (tails .entry)) (now (heads .entry)) (now (weights .entry)) (now (x .entry)) (now (y .entry)) (now (boxes .entry)) (now (route .entry)) in ⌜ Printed (λ reply. Makes sizes before (tripCall trip) reply (withRoute (now (route .exit)) before)) (now (page .entry)) r (now (page .exit)) ⌝ }
+    ensures { λ r. ⌜ r ≤ 368640 ⌝ }
+{
+    let n = sizes.n;
+    let m = sizes.m;
+    match trip {
+        Trip::Plain(s, t) => {
+            let a = search::search(n, m, tails, heads, weights, s, t, route);
+            return put_answer(page, a, route);
+        }
+        Trip::Boxed(s, t) => {
+            let a = search::search_boxed(n, m, tails, heads, weights, x, y, boxes, s, t, route);
+            return put_answer(page, a, route);
+        }
+    }
+}

@@ -1,5 +1,0 @@
-pub mod Signed
-pub mod PageLaws
-pub mod DecimalLaws
-pub mod RowLaws
-pub mod ValuesLaws

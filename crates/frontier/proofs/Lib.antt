@@ -1,0 +1,6 @@
+pub mod Keys
+mod Mending
+mod Lowering
+pub mod Leaves
+mod Linking
+pub mod Along

@@ -1,0 +1,107 @@
+-- What each call has judged fine is sound, and the other way round.
+use Prim.Native.Nat.{ℕ, _*_, _≤_}
+use mathlib.Core.Path.{_≡_, refl}
+use mathlib.Core.Logic.{_↔_}
+use mathlib.Core.Bool.{true, _&&_}
+use mathlib.Core.List.{List}
+use borrow.Author.Tests.{leb-true, le-leb}
+use lib.IntN.{ℤ}
+use lib.ListN.{length}
+use lib.Dec.{leb}
+use Rattle.rules.specs.declared.Judged.the-variants.{Fine}
+use Rattle.rules.specs.Judging.{passes}
+use Rattle.rules.specs.declared.Refusal.the-variants.{NotInNetwork}
+use Rattle.rules.proofs.AndLaws.{and-true, same-test}
+use Rattle.rules.proofs.JudgingLaws.{both-fine, passed, each-passes, each-fine}
+use Rattle.geometry.specs.Row.{boxOf}
+use Rattle.geometry.proofs.Tests.{shaped-yes, yes-shaped}
+use Rattle.walks.specs.Rows.{Rows, Sound}
+use Rattle.judging.specs.Order.{shapes, ends, change, networkJudged, shapedJudged, searchJudged, boxedJudged, buildJudged, checkJudged, updateJudged}
+use Rattle.judging.proofs.StageLaws.{network-fine, BoxesLent, Shaped, placed-fine, shaped-fine, placed-judged, shaped-adds-nothing}
+
+-- ---- The searches
+
+-- source and target are nodes
+ends-fine : (n s t : ℕ) → ends n s t ≡ Fine → (1 ≤ s) × (s ≤ n) × (1 ≤ t) × (t ≤ n)
+ends-fine n s t e =
+    let p = and-true (leb 1 s && leb s n && leb 1 t) (leb t n) (passed _ _ e) in
+    let q = and-true (leb 1 s && leb s n) (leb 1 t) (p .0) in
+    let r = and-true (leb 1 s) (leb s n) (q .0) in
+    (leb-true 1 s (r .0), leb-true s n (r .1), leb-true 1 t (q .1), leb-true t n (p .1))
+
+-- what a search is lent, where it was judged fine
+pub record SearchLent (n m : ℕ) (R : Rows) (s t places : ℕ) : Type 0 where
+  pub sound : Sound n m R
+  pub source-low : 1 ≤ s
+  pub source-high : s ≤ n
+  pub target-low : 1 ≤ t
+  pub target-high : t ≤ n
+  pub room : n ≤ places
+
+module _ (n m : ℕ) (R : Rows) (s t places : ℕ) where
+  search-lent : Sound n m R → leb n places ≡ true → ends n s t ≡ Fine → SearchLent n m R s t places
+  search-lent sound room e =
+      let p = ends-fine n s t e in
+      record { sound = sound; source-low = p .0; source-high = p .1; target-low = p .2; target-high = p .3; room = leb-true n places room }
+
+  pub search-fine : searchJudged n m R s t places ≡ Fine → SearchLent n m R s t places
+  unfolding searchJudged
+  search-fine e =
+      let p = both-fine (networkJudged n m R (leb n places)) _ e in
+      let q = network-fine n m R (leb n places) (p .0) in
+      search-lent (q .0) (q .1) (both-fine (ends n s t) Fine (p .1) .0)
+
+  pub boxed-fine : (x y boxes : List ℤ) → boxedJudged n m R x y boxes s t places ≡ Fine
+      → SearchLent n m R s t places × (n ≤ length x) × (n ≤ length y) × (4 * m ≤ length boxes)
+  unfolding boxedJudged
+  boxed-fine x y boxes e =
+      let p = both-fine (shapedJudged n m R x y boxes (leb n places)) _ e in
+      let q = placed-fine n m R x y boxes (leb n places) (shaped-fine n m R x y boxes (leb n places) (p .0) .0) in
+      let l = q .0 in
+      (search-lent (l .sound) (q .1) (both-fine (ends n s t) Fine (p .1) .0), l .x-long, l .y-long, l .boxes-long)
+
+-- ---- The box work
+
+module _ (n m : ℕ) (R : Rows) (x y boxes : List ℤ) where
+  pub build-fine : buildJudged n m R x y boxes ≡ Fine → BoxesLent n m R x y boxes
+  unfolding buildJudged
+  build-fine e = placed-fine n m R x y boxes true e .0
+
+  pub check-fine : checkJudged n m R x y boxes ≡ Fine → (buildJudged n m R x y boxes ≡ Fine) × Shaped m boxes
+  unfolding buildJudged checkJudged
+  check-fine e =
+      let p = shaped-fine n m R x y boxes true e in
+      (p .0, λ i low high. shaped-yes (boxOf boxes i) (each-passes _ _ m (p .1) i low high))
+
+  pub update-fine : (arc weight : ℕ) → updateJudged n m R x y boxes arc weight ≡ Fine
+      → (checkJudged n m R x y boxes ≡ Fine) × (1 ≤ arc) × (arc ≤ m) × (weight ≤ 1_000_000)
+  unfolding updateJudged
+  update-fine arc weight e =
+      let p = both-fine (checkJudged n m R x y boxes) _ e in
+      let c = both-fine (change m arc weight) Fine (p .1) .0 in
+      let q = both-fine (passes (leb 1 arc && leb arc m) NotInNetwork) _ c in
+      let a = and-true (leb 1 arc) (leb arc m) (passed _ _ (q .0)) in
+      let w = passed (leb weight 1_000_000) _ (both-fine _ Fine (q .1) .0) in
+      (p .0, leb-true 1 arc (a .0), leb-true arc m (a .1), leb-true weight 1_000_000 w)
+
+  pub shaped-judged : BoxesLent n m R x y boxes → Shaped m boxes → checkJudged n m R x y boxes ≡ Fine
+  unfolding checkJudged shapedJudged
+  shaped-judged l h =
+      let good : shapes m boxes ≡ Fine = each-fine _ _ m (λ e low high. yes-shaped (boxOf boxes e) (h e low high)) in
+      rw (placed-judged n m R x y boxes true l refl, good) refl
+
+  -- where a check gets past 10, both searches are judged alike
+  pub judged-alike : checkJudged n m R x y boxes ≡ Fine → (s t places : ℕ)
+      → boxedJudged n m R x y boxes s t places ≡ searchJudged n m R s t places
+  unfolding checkJudged boxedJudged searchJudged
+  judged-alike fine s t places = rw (shaped-adds-nothing n m R x y boxes fine (leb n places)) refl
+
+-- a search is judged alike by two route rows that both have n places, or both have not
+pub room-alike : (n m : ℕ) (R : Rows) (s t : ℕ) {a b : ℕ} → (n ≤ a) ↔ (n ≤ b)
+    → searchJudged n m R s t b ≡ searchJudged n m R s t a
+unfolding searchJudged
+room-alike n m R s t {a} {b} h = rw long
+  where
+    long : leb n b ≡ leb n a
+    long =
+        same-test (leb n b) (leb n a) (λ e. le-leb n a (h .1 (leb-true n b e))) (λ e. le-leb n b (h .0 (leb-true n a e)))

@@ -1,0 +1,5 @@
+pub mod StageLaws
+pub mod FineLaws
+pub mod CutLaws
+pub mod NextLaws
+pub mod SideLaws

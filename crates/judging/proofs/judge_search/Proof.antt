@@ -1,0 +1,26 @@
+-- `judging::judge_search` meets its contract: a refusal is handed on as it came.
+use mathlib.Core.Path.{sym, _∙_}
+use Rattle.rules.proofs.JudgingLaws.{refusal-decides, rest-decides, nothing-follows}
+use Rattle.judging.specs.Order.{searchJudged}
+use borrow.Author.Needs.{needs}
+use Rattle.judging.proofs.judge_search.Statement.{statement}
+use Rattle.judging.proofs.judge_search.Tie as tie
+
+returns : tie.Need-returns
+unfolding searchJudged
+returns c = refusal-decides _ (c .before .before .judge-network .ensures) (c .enum-told2 .given .1)
+
+returns-2 : tie.Need-returns-2
+unfolding searchJudged
+returns-2 c =
+    rest-decides (c .before .before .before .judge-network .ensures) (c .before .enum-told .given .1)
+    (c .judge-ends .ensures ∙ sym (nothing-follows _))
+
+pub judge-search-spec : {M : Type 1} → statement M
+judge-search-spec =
+    tie.close
+    (tie.spec
+    (λ c κs. search needs) (λ c. search needs) (λ c. search needs)
+    returns
+    (λ c κs. search needs)
+    returns-2)

@@ -1,0 +1,100 @@
+-- The one order of refusals, for every call on a network: 5 for n or m, 2, 8, 9, 10, 11, 5 for a new weight. First the stages in
+-- that order, then what calls have in common, then the calls. A call makes only the tests of what it is lent or reads.
+use Prim.Native.Nat.{ℕ, _*_}
+use mathlib.Core.Bool.{Bool, true, _&&_}
+use mathlib.Core.List.{List, [], _∷_}
+use lib.IntN.{ℤ}
+use lib.ListN.{length}
+use lib.Dec.{leb}
+use Rattle.rules.specs.Limits.{mostNodes, mostArcs, mostWeight}
+use Rattle.rules.specs.Judging.{inTurn, passes, each}
+use Rattle.rules.specs.declared.Judged.{Judged}
+use Rattle.rules.specs.declared.Refusal.the-variants.{RowTooShort, BeyondLimits, BadArc, BadCoordinate, BadBox, NotInNetwork}
+use Rattle.geometry.specs.Box.{withinB, wellShapedB}
+use Rattle.geometry.specs.Row.{coordinate, boxOf}
+use Rattle.walks.specs.Rows.{Rows, at}
+
+-- ---- The stages
+
+-- 5: n from 1 to 512, m from 0 to 2,048
+abbrev pub sizes : ℕ → ℕ → Judged
+sizes n m = passes (leb 1 n && leb n mostNodes && leb m mostArcs) (BeyondLimits 0)
+
+-- 2: every row that is lent is long enough
+abbrev pub lengths : Bool → Judged
+lengths long = passes long RowTooShort
+
+-- the arc rows have m places
+abbrev pub arcRowsLong : ℕ → Rows → Bool
+arcRowsLong m R = leb m (length (R .tails)) && leb m (length (R .heads)) && leb m (length (R .weights))
+
+-- the coordinate rows have n places, and the box row 4m
+abbrev pub boxRowsLong : ℕ → ℕ → List ℤ → List ℤ → List ℤ → Bool
+boxRowsLong n m x y boxes = leb n (length x) && leb n (length y) && leb (4 * m) (length boxes)
+
+-- 8: an arc's ends are nodes, and its weight is within the limit
+abbrev pub goodArc : ℕ → ℕ → ℕ → ℕ → Bool
+goodArc n tail head weight = leb 1 tail && leb tail n && leb 1 head && leb head n && leb weight mostWeight
+
+abbrev pub arcs : ℕ → ℕ → Rows → Judged
+arcs n m R = each (λ e. goodArc n (at (R .tails) e) (at (R .heads) e) (at (R .weights) e)) BadArc m
+
+-- 9: both coordinates of a node are within limits
+abbrev pub goodPlace : List ℤ → List ℤ → ℕ → Bool
+goodPlace x y node = withinB (coordinate x node) && withinB (coordinate y node)
+
+abbrev pub coordinates : ℕ → List ℤ → List ℤ → Judged
+coordinates n x y = each (goodPlace x y) BadCoordinate n
+
+-- 10: the box of an arc is well shaped
+abbrev pub goodBox : List ℤ → ℕ → Bool
+goodBox boxes arc = wellShapedB (boxOf boxes arc)
+
+abbrev pub shapes : ℕ → List ℤ → Judged
+shapes m boxes = each (goodBox boxes) BadBox m
+
+-- 11: source and target are nodes
+abbrev pub ends : ℕ → ℕ → ℕ → Judged
+ends n s t = passes (leb 1 s && leb s n && leb 1 t && leb t n) NotInNetwork
+
+-- 11, 5: there is such an arc, and its new weight is within the limit
+abbrev pub change : ℕ → ℕ → ℕ → Judged
+change m arc weight = inTurn (passes (leb 1 arc && leb arc m) NotInNetwork ∷ passes (leb weight mostWeight) (BeyondLimits 0) ∷ [])
+
+-- ---- What calls have in common; `others` tells whether the other rows that a call is lent are long enough
+
+-- a network: 5, 2, 8
+unfoldable pub networkJudged : ℕ → ℕ → Rows → Bool → Judged
+networkJudged n m R others = inTurn (sizes n m ∷ lengths (arcRowsLong m R && others) ∷ arcs n m R ∷ [])
+
+-- with coordinates and a row for boxes: 5, 2, 8, 9
+unfoldable pub placedJudged : ℕ → ℕ → Rows → List ℤ → List ℤ → List ℤ → Bool → Judged
+placedJudged n m R x y boxes others =
+    inTurn (networkJudged n m R (boxRowsLong n m x y boxes && others) ∷ coordinates n x y ∷ [])
+
+-- with boxes in that row: 5, 2, 8, 9, 10
+unfoldable pub shapedJudged : ℕ → ℕ → Rows → List ℤ → List ℤ → List ℤ → Bool → Judged
+shapedJudged n m R x y boxes others = inTurn (placedJudged n m R x y boxes others ∷ shapes m boxes ∷ [])
+
+-- ---- The calls; a search is also lent a route row, of `places` places, which needs n
+
+-- a search: 5, 2, 8, 11, and then 12
+unfoldable pub searchJudged : ℕ → ℕ → Rows → ℕ → ℕ → ℕ → Judged
+searchJudged n m R s t places = inTurn (networkJudged n m R (leb n places) ∷ ends n s t ∷ [])
+
+-- a search with boxes: 5, 2, 8, 9, 10, 11, and then 12
+unfoldable pub boxedJudged : ℕ → ℕ → Rows → List ℤ → List ℤ → List ℤ → ℕ → ℕ → ℕ → Judged
+boxedJudged n m R x y boxes s t places = inTurn (shapedJudged n m R x y boxes (leb n places) ∷ ends n s t ∷ [])
+
+module _ (n m : ℕ) (R : Rows) (x y boxes : List ℤ) where
+  -- build: 5, 2, 8, 9
+  unfoldable pub buildJudged : Judged
+  buildJudged = placedJudged n m R x y boxes true
+
+  -- check: 5, 2, 8, 9, 10, and then 13
+  unfoldable pub checkJudged : Judged
+  checkJudged = shapedJudged n m R x y boxes true
+
+  -- update: 5, 2, 8, 9, 10, 11, 5
+  unfoldable pub updateJudged : ℕ → ℕ → Judged
+  updateJudged arc weight = inTurn (checkJudged ∷ change m arc weight ∷ [])

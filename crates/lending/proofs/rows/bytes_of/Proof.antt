@@ -1,0 +1,27 @@
+-- `lending::rows::bytes_of` meets its contract.
+use Prim.Native.Nat.{_+_, _≤_}
+use native.Mathlib.Omega.{arith}
+use lib.ListN.{length}
+use Rattle.commands.specs.declared.rows.Kind.the-variants.{Bytes}
+use Rattle.lending.proofs.PartLaws.{lies-in, part-is}
+use borrow.Author.Needs.{needs}
+use Rattle.lending.proofs.rows.bytes_of.Statement.{statement}
+use Rattle.lending.proofs.rows.bytes_of.Tie as tie
+
+-- the stretch lies in the store
+room : (c : tie.After-lent-at) → c .before .stretch .result .start + c .lent-at .result ≤ length (c .before .before .before .args .bytes .now)
+room c =
+    let h = lies-in _ (c .before .before .before .args .row) (c .before .stretch .ensures .0) (c .before .stretch .ensures .1) Bytes (c .before .before .before .pre .0) in
+    omega (arith, h, c .lent-at .ensures, c .before .before .before .pre .1)
+
+returns : tie.Need-returns
+returns c = part-is _ (c .before .before .before .before .args .row) (c .before .before .stretch .ensures .0) (c .before .before .stretch .ensures .1) _ _ _ (c .before .lent-at .ensures)
+
+pub bytes-of-spec : {M : Type 1} → statement M
+bytes-of-spec =
+    tie.close
+    (tie.spec
+    (λ c κs. search needs) (λ c κs. search needs)
+    (λ c. let h = room c in search needs) (λ c. search needs) (λ c. search needs)
+    (λ c. let h = room c in search needs)
+    returns)

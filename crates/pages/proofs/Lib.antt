@@ -1,0 +1,5 @@
+pub mod Signed
+pub mod PageLaws
+pub mod DecimalLaws
+pub mod SpacedLaws
+pub mod ByteLaws

@@ -1,0 +1,4 @@
+pub mod AndLaws
+pub mod JudgingLaws
+pub mod PaperLaws
+pub mod ToldLaws

@@ -1,0 +1,89 @@
+-- Tests of what is told, and what they tell.
+use Prim.Native.Nat.{ℕ, _+_, _-_}
+use mathlib.Core.Path.{_≡_, refl, ap, subst}
+use mathlib.Core.Bool.{Bool, true, false, _&&_, false≢true}
+use mathlib.Core.List.{List, [], _∷_}
+use native.Mathlib.Omega.{arith}
+use borrow.Author.Tests.{eqb-true, leb-true}
+use lib.Dec.{eqb, leb}
+use lib.IntN.{ℤ, pos, negsuc}
+use Rattle.rules.proofs.AndLaws.{and-true}
+use Rattle.walks.specs.Walk.{WalkBy, by-none, by-arc}
+use Rattle.walks.specs.Rows.{Rows, at, network}
+use Rattle.worked.specs.Table.{Told}
+
+-- ---- The same numbers, rows and replies
+
+abbrev pub sameNumbers : List ℕ → List ℕ → Bool
+sameNumbers [] [] = true
+sameNumbers [] (y ∷ ys) = false
+sameNumbers (x ∷ xs) [] = false
+sameNumbers (x ∷ xs) (y ∷ ys) = eqb x y && sameNumbers xs ys
+
+pub same-numbers : (xs ys : List ℕ) → sameNumbers xs ys ≡ true → xs ≡ ys
+same-numbers [] [] t = refl
+same-numbers [] (y ∷ ys) t = absurd (false≢true t)
+same-numbers (x ∷ xs) [] t = absurd (false≢true t)
+same-numbers (x ∷ xs) (y ∷ ys) t = let p = and-true (eqb x y) (sameNumbers xs ys) t in rw (eqb-true x y (p .0), same-numbers xs ys (p .1))
+
+abbrev pub samePlace : ℤ → ℤ → Bool
+samePlace (pos a) (pos b) = eqb a b
+samePlace (pos a) (negsuc b) = false
+samePlace (negsuc a) (pos b) = false
+samePlace (negsuc a) (negsuc b) = eqb a b
+
+same-place : (a b : ℤ) → samePlace a b ≡ true → a ≡ b
+same-place (pos a) (pos b) t = ap pos (eqb-true a b t)
+same-place (pos a) (negsuc b) t = absurd (false≢true t)
+same-place (negsuc a) (pos b) t = absurd (false≢true t)
+same-place (negsuc a) (negsuc b) t = ap negsuc (eqb-true a b t)
+
+abbrev pub sameBoxes : List ℤ → List ℤ → Bool
+sameBoxes [] [] = true
+sameBoxes [] (y ∷ ys) = false
+sameBoxes (x ∷ xs) [] = false
+sameBoxes (x ∷ xs) (y ∷ ys) = samePlace x y && sameBoxes xs ys
+
+same-boxes : (xs ys : List ℤ) → sameBoxes xs ys ≡ true → xs ≡ ys
+same-boxes [] [] t = refl
+same-boxes [] (y ∷ ys) t = absurd (false≢true t)
+same-boxes (x ∷ xs) [] t = absurd (false≢true t)
+same-boxes (x ∷ xs) (y ∷ ys) t = let p = and-true (samePlace x y) (sameBoxes xs ys) t in rw (same-place x y (p .0), same-boxes xs ys (p .1))
+
+abbrev pub sameTold : Told → Told → Bool
+sameTold a b = eqb (a .reply .number) (b .reply .number) && sameNumbers (a .reply .values) (b .reply .values) && sameNumbers (a .numbers) (b .numbers) && sameBoxes (a .boxes) (b .boxes)
+
+pub same-told : (a b : Told) → sameTold a b ≡ true → a ≡ b
+same-told a b t =
+    let p = and-true (eqb (a .reply .number) (b .reply .number) && sameNumbers (a .reply .values) (b .reply .values) && sameNumbers (a .numbers) (b .numbers)) (sameBoxes (a .boxes) (b .boxes)) t in
+    let q = and-true (eqb (a .reply .number) (b .reply .number) && sameNumbers (a .reply .values) (b .reply .values)) (sameNumbers (a .numbers) (b .numbers)) (p .0) in
+    let r = and-true (eqb (a .reply .number) (b .reply .number)) (sameNumbers (a .reply .values) (b .reply .values)) (q .0) in
+    made (eqb-true _ _ (r .0)) (same-numbers _ _ (r .1)) (same-numbers _ _ (q .1)) (same-boxes _ _ (p .1))
+  where
+    make : ℕ → List ℕ → List ℕ → List ℤ → Told
+    make n v w z = record { reply = record { number = n; values = v }; numbers = w; boxes = z }
+
+    made : {n n′ : ℕ} {v v′ w w′ : List ℕ} {z z′ : List ℤ} → n ≡ n′ → v ≡ v′ → w ≡ w′ → z ≡ z′ → make n v w z ≡ make n′ v′ w′ z′
+    made p q r s = rw (p, q, r, s)
+
+-- ---- A walk by arcs, of a length
+
+module _ (m : ℕ) (R : Rows) where
+  abbrev pub walks : ℕ → ℕ → ℕ → List ℕ → Bool
+  walks u t l [] = eqb u t && eqb l 0
+  walks u t l (e ∷ es) = leb 1 e && leb e m && eqb (at (R .tails) e) u && leb (at (R .weights) e) l && walks (at (R .heads) e) t (l - at (R .weights) e) es
+
+  pub walks-by : (u t l : ℕ) (arcs : List ℕ) → walks u t l arcs ≡ true → WalkBy (network m R) u t l arcs
+  unfolding network
+  walks-by u t l [] p = let q = and-true (eqb u t) (eqb l 0) p in rw (eqb-true u t (q .0), eqb-true l 0 (q .1)) by-none
+  walks-by u t l (e ∷ es) p =
+      let w = at (R .weights) e in
+      let rest = walks (at (R .heads) e) t (l - w) es in
+      let p₁ = and-true (leb 1 e && leb e m && eqb (at (R .tails) e) u && leb w l) rest p in
+      let p₂ = and-true (leb 1 e && leb e m && eqb (at (R .tails) e) u) (leb w l) (p₁ .0) in
+      let p₃ = and-true (leb 1 e && leb e m) (eqb (at (R .tails) e) u) (p₂ .0) in
+      let p₄ = and-true (leb 1 e) (leb e m) (p₃ .0) in
+      let back : w + (l - w) ≡ l = omega (arith, leb-true w l (p₂ .1)) in
+      subst (λ (v : ℕ). WalkBy (network m R) v t l (e ∷ es)) (eqb-true _ u (p₃ .1))
+      (subst (λ (k : ℕ). WalkBy (network m R) (at (R .tails) e) t k (e ∷ es)) back
+      (by-arc e (leb-true 1 e (p₄ .0), leb-true e m (p₄ .1)) (walks-by (at (R .heads) e) t (l - w) es (p₁ .1))))

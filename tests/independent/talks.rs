@@ -1,0 +1,246 @@
+//! Talks with the console whose replies are written by hand, by 01's words and definitions.
+
+/// The lines of a talk with their replies. A line without `=>` is replied `ok`; `--` begins a remark.
+pub fn exchanges(talk: &str) -> Vec<(&str, &str)> {
+    let said = talk.lines().filter(|line| !line.is_empty() && !line.starts_with("--"));
+    said.map(|line| line.split_once(" => ").unwrap_or((line, "ok"))).collect()
+}
+
+pub const TALKS: [&str; 3] = [WORKED, SMALL, AROUND_ZERO];
+
+/// 'A hall plan worked through', lent by hand into rows of just the places needed.
+const WORKED: &str = "\
+fresh
+n 4
+m 6
+lend tails 1 2 1 3 1 4
+lend heads 2 3 3 4 4 1
+lend weights 3 2 5 1 9 4
+lend x 0 10 10 -5
+lend y 0 0 5 20
+lend boxes 7 7 7 7 7 7 7 7 7 7 7 7 7 7 7 7 7 7 7 7 7 7 7 7
+lend route 0 0 0 0
+build
+show boxes => boxes -5 10 0 20 -5 10 0 20 -5 10 5 20 -5 10 0 20 -5 -5 20 20 0 10 0 5
+-- Places after the route keep their contents.
+search 1 4 => ok 6 2 4 3 4
+show route => route 3 4 0 0
+boxed 1 4 => ok 6 2 4 3 4
+show route => route 3 4 0 0
+search 1 2 => ok 3 1 2 1
+show route => route 1 4 0 0
+boxed 1 2 => ok 3 1 2 1
+show route => route 1 4 0 0
+search 4 2 => ok 7 2 3 6 1
+show route => route 6 1 0 0
+boxed 4 2 => ok 7 2 3 6 1
+show route => route 6 1 0 0
+search 1 1 => ok 0 0 1
+boxed 1 1 => ok 0 0 1
+show route => route 6 1 0 0
+check
+-- Arc 3's low raised to 6, then every box at the full limits.
+lend boxes -5 10 0 20 -5 10 0 20 -5 10 6 20 -5 10 0 20 -5 -5 20 20 0 10 0 5
+check => refused 13 3 3 (the box of arc 3 misses node 3)
+lend boxes -1000000 1000000 -1000000 1000000 -1000000 1000000 -1000000 1000000 -1000000 1000000 -1000000 1000000 -1000000 1000000 -1000000 1000000 -1000000 1000000 -1000000 1000000 -1000000 1000000 -1000000 1000000
+check
+boxed 1 4 => ok 6 2 4 3 4
+-- Arc 5 reweighted to 6.
+build
+update 5 6
+show weights => weights 3 2 5 1 6 4
+show boxes => boxes -5 10 0 20 -5 10 0 20 -5 10 5 20 -5 10 0 20 -5 -5 20 20 0 10 0 5
+search 1 4 => ok 6 1 4 5
+boxed 1 4 => ok 6 1 4 5
+show route => route 5 4 0 0
+check
+";
+
+/// Smaller networks of 01, a triangle, and the errors that learners bring.
+const SMALL: &str = "\
+-- Two nodes, only arc 2 to 1.
+fresh
+n 2
+m 1
+lend tails 2
+lend heads 1
+lend weights 7
+lend route 0 0 0 0
+search 1 2 => refused 12 1 (no walk leads from the source to the target, settled 1)
+lend weights 0
+search 1 2 => refused 12 1 (no walk leads from the source to the target, settled 1)
+show route => route 0 0 0 0
+-- Arcs 1-2 and 2-1 of weight 0, 1-3 and 2-3 of weight 5.
+n 3
+m 4
+lend tails 1 2 1 2
+lend heads 2 1 3 3
+lend weights 0 0 5 5
+search 1 3 => ok 5 1 3 3
+show route => route 3 0 0 0
+-- Arcs 1-2, 2-3 and 1-3. With arc 3 slow, arc 1 leads to 3; an update of arc 3 mends the box of arc 1.
+n 3
+m 3
+lend tails 1 2 1
+lend heads 2 3 3
+lend weights 1 1 5
+lend x 0 10 10
+lend y 0 0 10
+lend boxes 10 10 0 0 10 10 10 10 10 10 10 10
+check => refused 13 1 3 (the box of arc 1 misses node 3)
+lend weights 1 1 1
+lend boxes 7 7 7 7 7 7 7 7 7 7 7 7
+build
+show boxes 4 => boxes 10 10 0 0
+update 3 5
+show boxes 4 => boxes 10 10 0 10
+check
+-- Error 1: boxes from one tree per node lose the way to 4.
+n 4
+m 5
+lend tails 1 2 1 2 3
+lend heads 2 1 3 3 4
+lend weights 0 0 5 5 1
+lend x 10 12 0 30
+lend y 0 1 0 5
+lend boxes 0 30 0 5 0 30 0 5 0 0 0 0 0 0 0 0 30 30 5 5
+search 1 4 => ok 6 2 4 3 5
+boxed 1 4 => refused 12 2 (no walk leads from the source to the target, settled 2)
+check => refused 13 3 4 (the box of arc 3 misses node 4)
+-- Error 2: a plan west of the origin.
+n 2
+m 1
+lend tails 1
+lend heads 2
+lend weights 1
+lend x -10 -20
+lend y -10 -5
+lend boxes 0 0 0 0
+build
+show boxes => boxes -20 -20 -5 -5
+";
+
+/// Boxes begun, grown and asked around zero, and places and boxes at the limits.
+const AROUND_ZERO: &str = "\
+-- The box of arc 1 at its head alone, wholly west and south; then grown further, and then across zero. The rest stays 7.
+fresh
+lend tails 1 2 3
+lend heads 2 3 4
+lend weights 1 1 1
+lend x 0 -7 -9 2
+lend y 0 -3 -4 1
+lend boxes 7 7 7 7 7 7 7 7 7 7 7 7 7
+n 2
+m 1
+build
+show boxes => boxes -7 -7 -3 -3 7 7 7 7 7 7 7 7 7
+n 3
+m 2
+build
+show boxes => boxes -9 -7 -4 -3 -9 -9 -4 -4 7 7 7 7 7
+n 4
+m 3
+build
+show boxes => boxes -9 2 -4 1 -9 2 -4 1 2 2 1 1 7
+-- The box of arc 2 grown, and arc 1 back to 1; then from corner to corner.
+m 4
+lend tails 2 1 2 3
+lend heads 1 2 3 4
+lend weights 1 1 1 1
+lend x 0 -7 -9 -8
+lend y 0 -3 -4 -2
+lend boxes 7 7 7 7 7 7 7 7 7 7 7 7 7 7 7 7 7
+build
+show boxes => boxes 0 0 0 0 -9 -7 -4 -2 -9 -8 -4 -2 -8 -8 -2 -2 7
+lend x 0 1000000 -1000000 0
+lend y 0 -1000000 1000000 0
+build
+show boxes => boxes 0 0 0 0 -1000000 1000000 -1000000 1000000 -1000000 0 0 1000000 0 0 0 0 7
+-- Seven places, each at the end of an arc. Which of them does the box -9 2 -4 1 hold, and which the box 7 7 7 7?
+n 8
+m 7
+lend tails 1 1 1 1 1 1 1
+lend heads 2 3 4 5 6 7 8
+lend weights 1 1 1 1 1 1 1
+lend x 0 0 -9 -10 -9 2 3 2
+lend y 0 0 -4 -4 -5 1 1 2
+lend boxes -9 2 -4 1 -9 2 -4 1 -9 2 -4 1 -9 2 -4 1 -9 2 -4 1 -9 2 -4 1 -9 2 -4 1
+boxed 1 2 => ok 1 1 2 1
+boxed 1 3 => ok 1 1 3 2
+boxed 1 4 => refused 12 1 (no walk leads from the source to the target, settled 1)
+boxed 1 5 => refused 12 1 (no walk leads from the source to the target, settled 1)
+boxed 1 6 => ok 1 1 6 5
+boxed 1 7 => refused 12 1 (no walk leads from the source to the target, settled 1)
+boxed 1 8 => refused 12 1 (no walk leads from the source to the target, settled 1)
+lend boxes 7 7 7 7 7 7 7 7 7 7 7 7 7 7 7 7 7 7 7 7 7 7 7 7 7 7 7 7
+boxed 1 2 => refused 12 1 (no walk leads from the source to the target, settled 1)
+boxed 1 3 => refused 12 1 (no walk leads from the source to the target, settled 1)
+boxed 1 4 => refused 12 1 (no walk leads from the source to the target, settled 1)
+boxed 1 5 => refused 12 1 (no walk leads from the source to the target, settled 1)
+boxed 1 6 => refused 12 1 (no walk leads from the source to the target, settled 1)
+boxed 1 7 => refused 12 1 (no walk leads from the source to the target, settled 1)
+boxed 1 8 => refused 12 1 (no walk leads from the source to the target, settled 1)
+-- Three places, of which one and then two are judged.
+m 0
+lend x -1000000 1000000 2000000
+lend y 1000000 -1000000 2000000
+n 1
+build
+n 2
+build
+lend x 0 1000001 2000000
+lend y 0 0 2000000
+n 1
+build
+n 2
+build => refused 9 2 (node 2 has a bad coordinate)
+lend x 0 0 2000000
+lend y 0 -1000001 2000000
+n 1
+build
+n 2
+build => refused 9 2 (node 2 has a bad coordinate)
+lend x -1000001 0 2000000
+lend y 0 1000001 2000000
+n 1
+build => refused 9 1 (node 1 has a bad coordinate)
+n 2
+build => refused 9 1 (node 1 has a bad coordinate)
+-- Two boxes, of which one and then both are judged.
+n 1
+lend tails 1 1
+lend heads 1 1
+lend weights 0 0
+lend x 0
+lend y 0
+lend boxes -1 0 0 1 -1000000 1000000 -1000000 1000000 2000000
+m 1
+boxed 1 1 => ok 0 0 1
+m 2
+boxed 1 1 => ok 0 0 1
+lend boxes -1 0 0 1 0 0 0 0 2000000
+m 1
+boxed 1 1 => ok 0 0 1
+m 2
+boxed 1 1 => ok 0 0 1
+lend boxes -1 0 0 1 1 0 0 0 2000000
+m 1
+boxed 1 1 => ok 0 0 1
+m 2
+boxed 1 1 => refused 10 2 (the box of arc 2 is not well shaped)
+lend boxes -1 0 0 1 0 0 -1 -2 2000000
+m 1
+boxed 1 1 => ok 0 0 1
+m 2
+boxed 1 1 => refused 10 2 (the box of arc 2 is not well shaped)
+lend boxes -1 0 0 1 -1000001 0 0 0 2000000
+m 1
+boxed 1 1 => ok 0 0 1
+m 2
+boxed 1 1 => refused 10 2 (the box of arc 2 is not well shaped)
+lend boxes -1 0 0 1 0 0 0 1000001 2000000
+m 1
+boxed 1 1 => ok 0 0 1
+m 2
+boxed 1 1 => refused 10 2 (the box of arc 2 is not well shaped)
+";
