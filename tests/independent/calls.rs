@@ -29,7 +29,7 @@ pub fn judge_arcs(lent: &Lent, others: &[(&Vec<i64>, i64)]) -> Result<Vec<Arc>, 
 }
 
 /// The places of the nodes, indexed by node, after refusal 9.
-fn judge_places(lent: &Lent) -> Result<Vec<Place>, Refusal> {
+pub fn judge_places(lent: &Lent) -> Result<Vec<Place>, Refusal> {
     let mut places = vec![(0, 0)];
     for node in 1..=lent.n as usize {
         let place = (lent.x[node - 1], lent.y[node - 1]);

@@ -3,10 +3,11 @@
 use crate::console::ROWS;
 use crate::files::joined;
 use crate::lent::Lent;
-use crate::plans::{add_surplus, ask, change_boxes, plan, spoil, Asked};
+use crate::plans::{add_surplus, ask, change_boxes, plan, some_bytes, spoil, Asked};
 use crate::random::Random;
 use crate::sizes::NODES;
 use crate::texts::{co_text, damage, gr_text};
+use crate::writing::{write_co, write_gr};
 
 /// The files that are there, and the lines that are typed. A file whose name ends in `/` is a folder.
 #[derive(Clone, Default)]
@@ -36,6 +37,11 @@ impl Case {
             input.push(b'\n');
         }
         input
+    }
+
+    /// Whether a file may be saved.
+    pub fn saves(&self) -> bool {
+        self.lines.iter().any(|line| line.starts_with(b"save "))
     }
 
     /// Types a line.
@@ -82,9 +88,10 @@ impl Case {
 
 /// A small case of any kind. `name` is for its files.
 pub fn small(random: &mut Random, name: &str) -> Case {
-    match random.below(10) {
+    match random.below(12) {
         0..=2 => text_case(random, name),
         3 => talk_case(random),
+        4 | 5 => write_case(random, name),
         _ => call_case(random),
     }
 }
@@ -137,11 +144,19 @@ pub fn text_case(random: &mut Random, name: &str) -> Case {
     }
     case.say(format!("co {name}.co"));
     case.call(random, &asked);
+    // Writing what was read.
+    for line in ["write gr", "show text 160", "write co"] {
+        case.say(line);
+    }
     if own_rows {
         case.show_rows();
     } else {
         for row in ROWS {
-            let some = if row.name == "boxes" { 4 * m + 5 } else { n + m + 3 };
+            let some = match row.name {
+                "boxes" => 4 * m + 5,
+                "text" => 160,
+                _ => n + m + 3,
+            };
             case.say(format!("show {} {some}", row.name));
         }
     }
@@ -150,9 +165,66 @@ pub fn text_case(random: &mut Random, name: &str) -> Case {
     case
 }
 
+/// How long the texts of a plan are that is within the limits.
+fn text_lengths(lent: &Lent) -> [i64; 2] {
+    let mut roomy = Lent { text: vec![0; 40_960], ..lent.clone() };
+    [write_gr(&mut roomy), write_co(&mut roomy)].map(|length| length.expect("the plan is within the limits"))
+}
+
+/// A small plan, spoilt in some things or in none, written into a row of about the text's length, and saved:
+/// over a file or as a new one, in a folder that is there or not, over a folder, by a name that is none.
+pub fn write_case(random: &mut Random, name: &str) -> Case {
+    let (nodes, arcs) = if random.once_in(50) { (60, 200) } else { (7, 14) };
+    let (n, m) = (random.between(1, nodes), random.between(0, arcs));
+    let mut lent = plan(random, n, m);
+    let mut asked = ask(random, &lent);
+    let places = random.pick(&text_lengths(&lent)) + random.pick(&[-1, 0, 0, 1, 9]);
+    add_surplus(random, &mut lent);
+    let places = match random.below(8) {
+        0 => 4_000,
+        1 => random.below(9),
+        _ => places as usize,
+    };
+    lent.text = some_bytes(random, places);
+    for _ in 0..random.pick(&[0, 0, 0, 1, 1, 2]) {
+        spoil(random, &mut lent, &mut asked);
+    }
+    let mut case = Case::default();
+    case.file(format!("{name}-there"), b"c an old plan\n".to_vec());
+    case.file(format!("{name}-folder/in"), b"another\n".to_vec());
+    case.lend(&lent);
+    for _ in 0..random.pick(&[1, 2, 2, 3]) {
+        let kind = random.pick(&["gr", "co"]);
+        let file = match random.below(9) {
+            0..=2 => format!("{name}-there"),
+            3 => format!("./{name}-new"),
+            4 => format!("{name}-new"),
+            5 => format!("{name}-folder/in"),
+            6 => format!("{name}-folder"),
+            7 => format!("{name}-missing/plan"),
+            _ => random.pick(&["a\0b", "/", "..", "x/"]).to_string(),
+        };
+        if random.once_in(2) {
+            case.say(format!("write {kind}"));
+        } else {
+            case.say(format!("save {kind} {file}"));
+        }
+        case.show_rows();
+    }
+    // What was saved is read back; a file that was not replaced is still the old one.
+    case.say("fresh");
+    for file in ["there", "new"] {
+        case.say(format!("gr {name}-{file}"));
+        case.say(format!("co {name}-{file}"));
+    }
+    case.say(format!("show weights {}", m + 1));
+    case.say(format!("show x {}", n + 1));
+    case
+}
+
 /// Lines that are no commands, or that name numbers at the ends of their types.
 #[rustfmt::skip]
-pub const ODD_LINES: [&[u8]; 58] = [
+pub const ODD_LINES: [&[u8]; 73] = [
     b"", b" ", b"\t", b"\r", b"  ", b" n 1", b"n 1 ", b"n  1", b"n\t1", b"n 1\r", b"n\r", b" \r",
     b"N 1", b"nn 1", b"1", b"?", b"n", b"m", b"n 1 2", b"n 01", b"n -1", b"n -0", b"n +1", b"n x", b"n 0",
     b"m 4294967295", b"m 4294967296", b"n 18446744073709551617", b"m 1x",
@@ -162,6 +234,8 @@ pub const ODD_LINES: [&[u8]; 58] = [
     b"show", b"show rows", b"show x 1 2", b"show x -1", b"show y 01", b"show y 1025",
     b"show route 4294967296", b"show boxes 0", b"gr", b"co a b", b"gr .", b"co missing",
     b"build 1", b"update 1", b"search 1", b"boxed 1 1 1", b"search 1 4294967296",
+    b"write", b"write gr co", b"write x", b"write x y", b"save", b"save gr", b"save co a b", b"save x", b"save x a",
+    b"save gr .", b"save co missing/a", b"lend text 256", b"lend text -1", b"lend text 255 0", b"show text 40961",
 ];
 
 /// A row of more numbers than the console has places for; the last is misspelt, which comes second.

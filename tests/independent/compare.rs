@@ -3,7 +3,7 @@
 use crate::cases::{boxes_case, small, Case};
 use crate::files::listing;
 use crate::hall;
-use crate::limits::{limit_case, limit_texts, streams};
+use crate::limits::{limit_case, limit_texts, limit_writing, streams};
 use crate::random::Random;
 use crate::scratch::Scratch;
 use crate::shrink::{shrunk, told};
@@ -98,7 +98,10 @@ impl Program {
     fn difference(&self, scratch: &Scratch, case: &Case, patience: Duration) -> Option<Difference> {
         scratch.write(&case.files);
         let demanded = (self.demanded)(scratch, case);
-        let written = self.written(scratch, case, patience);
+        let mut written = self.written(scratch, case, patience);
+        if case.saves() {
+            written.extend(scratch.listed());
+        }
         if demanded == written {
             return None;
         }
@@ -248,6 +251,7 @@ fn all_agree(
         comparison.compare(console, &[limit_case(random, kind)])?;
     }
     comparison.compare(console, &[limit_texts(random, "limit")])?;
+    comparison.compare(console, &[limit_writing()])?;
     comparison.tell("cases at the limits");
     for _ in 0..count / SMALL_PER_BOXES {
         comparison.compare(boxes, &[boxes_case(random)])?;
@@ -258,7 +262,13 @@ fn all_agree(
 
 /// Compares the programs that the two commands start; true if all cases of the part agree.
 pub fn run(part: Part, console: &str, boxes: &str, seed: u64, count: usize) -> bool {
-    let console = Program::new(console, |scratch, case| scratch.demanded(&case.input()));
+    let console = Program::new(console, |scratch, case| {
+        if case.saves() {
+            scratch.demanded_with_files(&case.input())
+        } else {
+            scratch.demanded(&case.input())
+        }
+    });
     let boxes = Program::new(boxes, |scratch, _| listing(&scratch.folder).into_bytes());
     let mut comparison = Comparison { scratch: Scratch::new(), part, starts: 0, compared: 0, told: 0 };
     let outcome = all_agree(&mut comparison, &console, &boxes, seed, count);

@@ -1,36 +1,61 @@
 //! The console: a line of words is a command, and each line gets exactly one line as its reply.
 
 use crate::calls;
-use crate::files::{joined, read_file};
+use crate::files::{joined, Folder};
 use crate::lent::Lent;
 use crate::network::Found;
 use crate::refusals::Refusal;
 use crate::text::{number, read_co, read_gr, signed_number};
-use std::ffi::OsStr;
+use crate::writing;
 use std::io::{self, BufRead, Write};
-use std::os::unix::ffi::OsStrExt;
-use std::path::PathBuf;
 
 /// The longest line that is taken, its byte 10 not counted.
 pub const LINE_BYTES: usize = 262_144;
 
-/// A row of the console: its name, the places it has, whether its numbers are signed, and where it is.
+/// What a row holds: numbers of 32 bits without or with a sign, or bytes.
+#[derive(Clone, Copy, PartialEq, Eq)]
+pub enum Kind {
+    Count,
+    Signed,
+    Byte,
+}
+
+impl Kind {
+    pub fn least(self) -> i64 {
+        if self == Kind::Signed {
+            i32::MIN as i64
+        } else {
+            0
+        }
+    }
+
+    pub fn greatest(self) -> i64 {
+        match self {
+            Kind::Count => u32::MAX as i64,
+            Kind::Signed => i32::MAX as i64,
+            Kind::Byte => u8::MAX as i64,
+        }
+    }
+}
+
+/// A row of the console: its name, the places it has, what it holds, and where it is.
 pub struct Row {
     pub name: &'static str,
     pub places: usize,
-    pub signed: bool,
+    pub kind: Kind,
     pub of: fn(&mut Lent) -> &mut Vec<i64>,
 }
 
 #[rustfmt::skip]
-pub const ROWS: [Row; 7] = [
-    Row { name: "tails", places: 4_096, signed: false, of: |lent| &mut lent.tails },
-    Row { name: "heads", places: 4_096, signed: false, of: |lent| &mut lent.heads },
-    Row { name: "weights", places: 4_096, signed: false, of: |lent| &mut lent.weights },
-    Row { name: "x", places: 1_024, signed: true, of: |lent| &mut lent.x },
-    Row { name: "y", places: 1_024, signed: true, of: |lent| &mut lent.y },
-    Row { name: "boxes", places: 16_384, signed: true, of: |lent| &mut lent.boxes },
-    Row { name: "route", places: 1_024, signed: false, of: |lent| &mut lent.route },
+pub const ROWS: [Row; 8] = [
+    Row { name: "tails", places: 4_096, kind: Kind::Count, of: |lent| &mut lent.tails },
+    Row { name: "heads", places: 4_096, kind: Kind::Count, of: |lent| &mut lent.heads },
+    Row { name: "weights", places: 4_096, kind: Kind::Count, of: |lent| &mut lent.weights },
+    Row { name: "x", places: 1_024, kind: Kind::Signed, of: |lent| &mut lent.x },
+    Row { name: "y", places: 1_024, kind: Kind::Signed, of: |lent| &mut lent.y },
+    Row { name: "boxes", places: 16_384, kind: Kind::Signed, of: |lent| &mut lent.boxes },
+    Row { name: "route", places: 1_024, kind: Kind::Count, of: |lent| &mut lent.route },
+    Row { name: "text", places: 40_960, kind: Kind::Byte, of: |lent| &mut lent.text },
 ];
 
 /// Why a line is no command. Of several faults the first in this list is told;
@@ -73,12 +98,14 @@ const COMMANDS: [&[u8]; 13] = [
 
 pub const HELP: &str =
     "commands: n N, m M, lend ROW VALUES, show ROW, show ROW K, gr FILE, co FILE, build, check, \
-    update ARC WEIGHT, search S T, boxed S T, fresh, help; rows: tails, heads, weights, x, y, boxes, route";
+    update ARC WEIGHT, search S T, boxed S T, write gr, write co, save gr FILE, save co FILE, fresh, help; \
+    rows: tails, heads, weights, x, y, boxes, route, text";
 
 /// A reply other than the one hoped for.
 enum No {
     Fault(Fault),
     Refused(Refusal),
+    Unwritten,
 }
 
 impl From<Fault> for No {
@@ -98,30 +125,39 @@ fn row_named(name: &[u8]) -> Result<&'static Row, Fault> {
     NAMED.iter().find(|row| row.name.as_bytes() == name).ok_or(Fault::NoRow)
 }
 
-/// A number of 32 bits; only a signed one may have a minus.
-fn value(word: &[u8], signed: bool) -> Result<i64, Fault> {
-    let (spelt, least, greatest) = if signed {
-        (signed_number(word), i32::MIN as i64, i32::MAX as i64)
-    } else {
-        (number(word), 0, u32::MAX as i64)
-    };
+/// A number of a row's kind; only a signed one may have a minus.
+fn value(word: &[u8], kind: Kind) -> Result<i64, Fault> {
+    let spelt = if kind == Kind::Signed { signed_number(word) } else { number(word) };
     let value = spelt.ok_or(Fault::Misspelt)?;
-    if (least..=greatest).contains(&value) {
+    if (kind.least()..=kind.greatest()).contains(&value) {
         Ok(value)
     } else {
         Err(Fault::BeyondType)
     }
 }
 
+fn count(word: &[u8]) -> Result<i64, Fault> {
+    value(word, Kind::Count)
+}
+
+/// Writes a text as the words `gr` or `co` ask for; none for other words.
+fn writer(of: &[u8]) -> Option<fn(&mut Lent) -> Result<i64, Refusal>> {
+    match of {
+        b"gr" => Some(writing::write_gr),
+        b"co" => Some(writing::write_co),
+        _ => None,
+    }
+}
+
 /// The console's rows and numbers, and the folder in which it was started.
 pub struct Console {
     lent: Lent,
-    folder: PathBuf,
+    pub folder: Folder,
 }
 
 impl Console {
-    pub fn started_in(folder: impl Into<PathBuf>) -> Console {
-        Console { lent: fresh(), folder: folder.into() }
+    pub fn started_in(folder: Folder) -> Console {
+        Console { lent: fresh(), folder }
     }
 
     /// The reply to one line, without its byte 10.
@@ -129,6 +165,7 @@ impl Console {
         match self.obey(line) {
             Ok(reply) => reply,
             Err(No::Refused(refusal)) => refusal.to_string(),
+            Err(No::Unwritten) => "refused 0 0 (the file cannot be written)".to_string(),
             Err(No::Fault(fault)) => format!("? {}", FAULT_WORDS[fault as usize]),
         }
     }
@@ -148,36 +185,57 @@ impl Console {
         if words.iter().any(|word| word.is_empty()) {
             return Err(No::Fault(Fault::EmptyWord));
         }
-        let bytes_of = |file: &[u8]| read_file(&self.folder.join(OsStr::from_bytes(file)));
-        let lent = &mut self.lent;
+        let (lent, folder) = (&mut self.lent, &mut self.folder);
         match words[..] {
-            [b"n", n] => lent.n = value(n, false)?,
-            [b"m", m] => lent.m = value(m, false)?,
+            [b"n", n] => lent.n = count(n)?,
+            [b"m", m] => lent.m = count(m)?,
             [b"lend", name, ref numbers @ ..] => {
                 let row = row_named(name)?;
                 if numbers.len() > row.places {
                     return Err(No::Fault(Fault::LongRow));
                 }
                 *(row.of)(lent) =
-                    numbers.iter().map(|word| value(word, row.signed)).collect::<Result<_, _>>()?;
+                    numbers.iter().map(|word| value(word, row.kind)).collect::<Result<_, _>>()?;
             }
             [b"show", name] => return Ok(shown(name, (row_named(name)?.of)(lent))),
-            [b"show", name, count] => {
+            [b"show", name, places] => {
                 let row = row_named(name)?;
-                let count = value(count, false)? as usize;
-                let places = (row.of)(lent).get(..count).ok_or(Fault::FewerLent)?;
+                let places = count(places)? as usize;
+                let places = (row.of)(lent).get(..places).ok_or(Fault::FewerLent)?;
                 return Ok(shown(name, places));
             }
             [b"gr", file] => {
-                (lent.n, lent.m) = read_gr(&bytes_of(file)?, lent)?;
+                (lent.n, lent.m) = read_gr(&folder.read(file)?, lent)?;
                 return Ok(format!("ok {} {}", lent.n, lent.m));
             }
-            [b"co", file] => read_co(&bytes_of(file)?, lent)?,
+            [b"co", file] => read_co(&folder.read(file)?, lent)?,
             [b"build"] => calls::build(lent)?,
             [b"check"] => calls::check(lent)?,
-            [b"update", arc, weight] => calls::update(lent, value(arc, false)?, value(weight, false)?)?,
-            [b"search", s, t] => return Ok(told(calls::search(lent, value(s, false)?, value(t, false)?)?)),
-            [b"boxed", s, t] => return Ok(told(calls::boxed(lent, value(s, false)?, value(t, false)?)?)),
+            [b"update", arc, weight] => calls::update(lent, count(arc)?, count(weight)?)?,
+            [b"search", s, t] => return Ok(told(calls::search(lent, count(s)?, count(t)?)?)),
+            [b"boxed", s, t] => return Ok(told(calls::boxed(lent, count(s)?, count(t)?)?)),
+            // The kind of file is part of the command's name.
+            [b"write", of, ref rest @ ..] => {
+                let write = writer(of).ok_or(Fault::NoCommand)?;
+                let [] = rest else {
+                    return Err(No::Fault(Fault::WordCount));
+                };
+                return Ok(format!("ok {}", write(lent)?));
+            }
+            // What `write` would put, the row `text` staying as it is.
+            [b"save", of, ref rest @ ..] => {
+                let write = writer(of).ok_or(Fault::NoCommand)?;
+                let [file] = rest else {
+                    return Err(No::Fault(Fault::WordCount));
+                };
+                let mut would = lent.clone();
+                let length = write(&mut would)?;
+                let bytes = would.text[..length as usize].iter().map(|byte| *byte as u8).collect();
+                if !folder.save(file, bytes) {
+                    return Err(No::Unwritten);
+                }
+                return Ok(format!("ok {length}"));
+            }
             [b"fresh"] => *lent = fresh(),
             [b"help"] => return Ok(HELP.to_string()),
             [command, ..] if COMMANDS.contains(&command) => return Err(No::Fault(Fault::WordCount)),
@@ -209,7 +267,7 @@ fn told(found: Found) -> String {
 }
 
 /// Answers each line of `input`, each reply being written at once. The last line may lack its byte 10.
-pub fn converse(mut console: Console, mut input: impl BufRead, mut output: impl Write) -> io::Result<()> {
+pub fn converse(console: &mut Console, mut input: impl BufRead, mut output: impl Write) -> io::Result<()> {
     let mut line = Vec::new();
     while input.read_until(b'\n', &mut line)? > 0 {
         let reply = console.reply(line.strip_suffix(b"\n").unwrap_or(&line));

@@ -5,9 +5,12 @@ use crate::lent::Lent;
 use crate::refusals::{refused, Refusal};
 use crate::sizes::{ARCS, NODES, TEXT_BYTES};
 use crate::text::{read_co, read_gr};
-use std::fs::File;
+use std::collections::BTreeMap;
+use std::ffi::OsStr;
+use std::fs::{self, File};
 use std::io::Read;
-use std::path::Path;
+use std::os::unix::ffi::OsStrExt;
+use std::path::{Component, Path, PathBuf};
 
 /// A file's bytes, read no further than to know that they are too many.
 /// A file that cannot be opened or read is refused with number 0.
@@ -16,6 +19,61 @@ pub fn read_file(path: &Path) -> Result<Vec<u8>, Refusal> {
     match File::open(path).and_then(|file| file.take(TEXT_BYTES as u64 + 1).read_to_end(&mut bytes)) {
         Ok(_) => Ok(bytes),
         Err(_) => refused(0, &[0]),
+    }
+}
+
+/// The folder in which a console was started. Files are saved there, or only noted here as if they were.
+pub struct Folder {
+    path: PathBuf,
+    noted: Option<BTreeMap<PathBuf, Vec<u8>>>,
+}
+
+impl Folder {
+    pub fn real(path: impl Into<PathBuf>) -> Folder {
+        Folder { path: path.into(), noted: None }
+    }
+
+    pub fn noting(path: impl Into<PathBuf>) -> Folder {
+        Folder { path: path.into(), noted: Some(BTreeMap::new()) }
+    }
+
+    /// The files that were noted.
+    pub fn noted(&self) -> BTreeMap<PathBuf, Vec<u8>> {
+        self.noted.clone().unwrap_or_default()
+    }
+
+    /// The path of a file; a dot for this folder is left out.
+    fn at(&self, name: &[u8]) -> PathBuf {
+        let path = self.path.join(OsStr::from_bytes(name));
+        path.components().filter(|part| *part != Component::CurDir).collect()
+    }
+
+    pub fn read(&self, name: &[u8]) -> Result<Vec<u8>, Refusal> {
+        let path = self.at(name);
+        match self.noted.as_ref().and_then(|noted| noted.get(&path)) {
+            Some(bytes) => Ok(bytes.clone()),
+            None => read_file(&path),
+        }
+    }
+
+    /// Saves a file whole, or leaves everything as it was; true if it is saved.
+    pub fn save(&mut self, name: &[u8], bytes: Vec<u8>) -> bool {
+        let path = self.at(name);
+        let folder = path.parent().map_or(false, |parent| parent == Path::new("") || parent.is_dir());
+        let named = !name.contains(&0)
+            && !name.ends_with(b"/")
+            && path.file_name().is_some_and(|name| name.len() < 256);
+        if !folder || !named || path.is_dir() {
+            return false;
+        }
+        match &mut self.noted {
+            Some(noted) => drop(noted.insert(path, bytes)),
+            None => {
+                let beside = path.with_extension("new");
+                return fs::write(&beside, bytes).and_then(|()| fs::rename(&beside, &path)).is_ok();
+            }
+        }
+        true
     }
 }
 

@@ -12,6 +12,8 @@ pub struct Lent {
     pub y: Vec<i64>,
     pub boxes: Vec<i64>,
     pub route: Vec<i64>,
+    /// Bytes.
+    pub text: Vec<i64>,
 }
 
 /// Writes the first places of a row; the others keep their contents.

@@ -2,9 +2,10 @@
 
 use crate::cases::Case;
 use crate::console::LINE_BYTES;
+use crate::lent::Lent;
 use crate::plans::{add_surplus, ask, plan};
 use crate::random::Random;
-use crate::sizes::{ARCS, NODES, WEIGHT};
+use crate::sizes::{ARCS, COORDINATE, NODES, WEIGHT};
 use crate::texts::{co_text, gr_text};
 
 /// Inputs in which the end or the length of a line matters.
@@ -12,6 +13,7 @@ pub fn streams() -> Vec<Case> {
     let line =
         |begin: &str, bytes: usize| begin.bytes().chain(vec![b'x'; bytes - begin.len()]).collect::<Vec<u8>>();
     let boxes = |places: usize| format!("lend boxes{}", " -2147483648".repeat(places)).into_bytes();
+    let bytes = |places: usize| format!("lend text{}", " 255".repeat(places)).into_bytes();
     let (help, show) = (|| b"help".to_vec(), || b"show boxes 3".to_vec());
     let inputs = [
         vec![],
@@ -27,6 +29,8 @@ pub fn streams() -> Vec<Case> {
         vec![vec![0; 1_000_000], show()],
         vec![boxes(16_384), b"show boxes".to_vec()],
         vec![boxes(16_385), show()],
+        vec![bytes(40_960), b"show text".to_vec()],
+        vec![bytes(40_961), b"show text 3".to_vec()],
     ];
     let both_ends = |lines: &Vec<Vec<u8>>| {
         [false, true].map(|unended| Case { lines: lines.clone(), unended, ..Case::default() })
@@ -62,6 +66,49 @@ pub fn limit_case(random: &mut Random, kind: usize) -> Case {
     }
     case.say(format!("update {} {}", random.between(1, ARCS), random.pick(&[0, WEIGHT])));
     case.show_rows();
+    case
+}
+
+/// The longest texts there can be, written into rows of their length, of a place less, and of all places.
+pub fn limit_writing() -> Case {
+    let (n, m) = (NODES as usize, ARCS as usize);
+    let lent = Lent {
+        n: NODES,
+        m: ARCS,
+        tails: vec![NODES; m],
+        heads: vec![NODES; m],
+        weights: vec![WEIGHT; m],
+        x: vec![-COORDINATE; n],
+        y: vec![-COORDINATE; n],
+        ..Lent::default()
+    };
+    let mut case = Case::default();
+    case.lend(&lent);
+    for (kind, length) in [("gr", 36_878), ("co", 12_196)] {
+        for places in [length - 1, length, length + 1, 40_960] {
+            case.say(format!("lend text{}", " 7".repeat(places)));
+            case.say(format!("write {kind}"));
+            case.say("show text");
+            case.say(format!("save {kind} longest.{kind}"));
+        }
+    }
+    for line in ["fresh", "gr longest.gr", "co longest.co", "show weights 2049", "show y 513"] {
+        case.say(line);
+    }
+    // One node or one arc too many, for which the rows are long enough.
+    for line in [
+        "n 513",
+        "write co",
+        "write gr",
+        "n 512",
+        "m 2049",
+        "write gr",
+        "write co",
+        "n 0",
+        "save co longest.co",
+    ] {
+        case.say(line);
+    }
     case
 }
 

@@ -1,4 +1,4 @@
-//! The independent program: document 01 a second time, from its words alone, to compare the crates with.
+//! The independent program: document 01 and request a of 02 a second time, from their words alone, to compare the crates with.
 //! It is built by: rustc -O --edition 2021 -o target/independent tests/independent/main.rs
 
 mod boxes;
@@ -22,10 +22,11 @@ mod sizes;
 mod talks;
 mod text;
 mod texts;
+mod writing;
 
 use compare::Part;
 use console::{converse, Console};
-use files::{joined, read_file};
+use files::{joined, read_file, Folder};
 use refusals::Refusal;
 use std::fs::File;
 use std::io::{self, BufReader, Write};
@@ -66,8 +67,10 @@ fn obey(words: &[&str]) -> Result<bool, Box<dyn std::error::Error>> {
     let mut out = io::stdout().lock();
     match *words {
         ["selftest"] => return Ok(selftest::run()),
-        ["expect", file] => converse(Console::started_in(""), BufReader::new(File::open(file)?), out)?,
-        ["console"] => converse(Console::started_in(""), io::stdin().lock(), out)?,
+        ["expect", file] => {
+            converse(&mut Console::started_in(Folder::noting("")), BufReader::new(File::open(file)?), out)?
+        }
+        ["console"] => converse(&mut Console::started_in(Folder::real("")), io::stdin().lock(), out)?,
         ["boxes"] => out.write_all(files::listing(Path::new("")).as_bytes())?,
         ["read", "gr", file] => out.write_all(told(gr_read(file)).as_bytes())?,
         ["read", "co", file, n] => out.write_all(told(co_read(file, n.parse()?)).as_bytes())?,

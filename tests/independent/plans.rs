@@ -1,7 +1,7 @@
 //! Random plans: networks, places, boxes, lent rows with surplus, and what can be wrong with them.
 
 use crate::calls::build;
-use crate::console::ROWS;
+use crate::console::{Kind, ROWS};
 use crate::lent::{fill, Lent};
 use crate::random::Random;
 use crate::sizes::*;
@@ -15,12 +15,18 @@ const FAR_WEST: i64 = i32::MIN as i64;
 pub fn plan(random: &mut Random, n: i64, m: i64) -> Lent {
     let mut lent = Lent { n, m, ..Lent::default() };
     lent.route = (0..n).map(|_| random.between(0, 99)).collect();
+    lent.text = some_bytes(random, 5);
     draw_arcs(random, &mut lent);
     draw_weights(random, &mut lent);
     draw_places(random, &mut lent);
     lent.boxes = vec![0; 4 * m as usize];
     build(&mut lent).expect("a plan within the limits has boxes");
     lent
+}
+
+/// Any bytes.
+pub fn some_bytes(random: &mut Random, count: usize) -> Vec<i64> {
+    (0..count).map(|_| random.between(0, 255)).collect()
 }
 
 /// Arcs anywhere; in two parts without a way between; in few pairs, so that many are parallel;
@@ -120,7 +126,11 @@ pub fn change_boxes(random: &mut Random, lent: &mut Lent) {
 pub fn add_surplus(random: &mut Random, lent: &mut Lent) {
     for row in ROWS {
         for _ in 0..random.below(4) {
-            let number = if row.signed { random.pick(&[FAR_EAST, FAR_WEST]) } else { FAR };
+            let number = match row.kind {
+                Kind::Count => FAR,
+                Kind::Signed => random.pick(&[FAR_EAST, FAR_WEST]),
+                Kind::Byte => random.between(0, 255),
+            };
             (row.of)(lent).push(number);
         }
     }

@@ -1,6 +1,6 @@
 //! The recorded cases, for comparing a console with a stored output.
 
-use crate::cases::{call_case, long_row, text_case, Case, ODD_LINES};
+use crate::cases::{call_case, long_row, text_case, write_case, Case, ODD_LINES};
 use crate::console::LINE_BYTES;
 use crate::hall;
 use crate::random::Random;
@@ -27,6 +27,11 @@ pub fn recorded(seed: u64) -> Case {
         let texts = text_case(&mut random, &format!("case{number}"));
         case.files.extend(texts.files);
         case.lines.extend(texts.lines);
+    }
+    for number in 1..=30 {
+        let written = write_case(&mut random, &format!("write{number}"));
+        case.files.extend(written.files);
+        case.lines.extend(written.lines);
     }
     for _ in 0..170 {
         case.lines.extend(call_case(&mut random).lines);

@@ -8,14 +8,16 @@ use crate::files::{listing, rows_for_reading};
 use crate::hall;
 use crate::lent::Lent;
 use crate::network::{labels, lengths, Arc};
-use crate::plans::{add_surplus, ask, change_boxes, plan};
+use crate::plans::{add_surplus, ask, change_boxes, plan, some_bytes};
 use crate::random::Random;
 use crate::record::recorded;
-use crate::refusals::refused;
+use crate::refusals::{refused, Refusal};
 use crate::scratch::Scratch;
+use crate::sizes::{ARCS, COORDINATE, NODES, TEXT_BYTES, WEIGHT};
 use crate::talks::{exchanges, TALKS};
-use crate::text::{number, read_co, read_gr, signed_number};
+use crate::text::{fields, lines, number, read_co, read_gr, signed_number};
 use crate::texts::{co_text, gr_text};
+use crate::writing::{write_co, write_gr};
 use std::collections::BTreeSet;
 
 #[derive(Default)]
@@ -42,6 +44,7 @@ pub fn run() -> bool {
     hall_plan(&mut tally);
     one_tree_per_node(&mut tally);
     wholly_west(&mut tally);
+    longest_texts(&mut tally);
     let mut random = Random::new(1);
     for _ in 0..4_000 {
         claims(&mut tally, &mut random);
@@ -115,6 +118,7 @@ fn one_tree_per_node(tally: &mut Tally) {
         // Arcs 1 and 2 hold what the trees from 1 and from 2 reach through them, 3 and 4 only their head.
         boxes: [[2, 4, 0, 0], [1, 4, 0, 0], [3, 3, 0, 0], [3, 3, 0, 0], [4, 4, 0, 0]].concat(),
         route: vec![0; 4],
+        text: vec![],
     };
     tally.expect(boxed(&mut lent, 1, 4) == refused(12, &[2]), "from 1 the way to 4 is lost");
     tally.expect(boxed(&mut lent, 2, 4) == refused(12, &[2]), "from 2 the way to 4 is lost");
@@ -145,6 +149,9 @@ fn claims(tally: &mut Tally, random: &mut Random) {
     tally.expect(read.weights.starts_with(&lent.weights), "weights are read back");
     tally.expect(read.x.starts_with(&lent.x) && read.y.starts_with(&lent.y), "places are read back");
 
+    written_back(tally, random, &lent);
+    rewritten(tally, random, texts);
+
     tally.expect(check(&lent).is_ok(), "built boxes pass check");
     tally.expect(tight_is_smallest(&lent), "no side of a built box can be moved inward");
     lengths_agree(tally, &lent);
@@ -168,6 +175,74 @@ fn claims(tally: &mut Tally, random: &mut Random) {
     add_surplus(random, &mut lent);
     tally.expect(search(&mut lent, asked.s, asked.t) == reply, "surplus is not read");
     tally.expect(lent.boxes.starts_with(&before.boxes), "a search leaves the boxes alone");
+}
+
+/// The text that is written, which has room in the lent row.
+fn text_of(lent: &mut Lent, write: fn(&mut Lent) -> Result<i64, Refusal>) -> Vec<u8> {
+    let length = write(lent).expect("the plan is within the limits, and the row is long enough") as usize;
+    lent.text[..length].iter().map(|byte| *byte as u8).collect()
+}
+
+/// Reading what was written gives the same network. The exact length is room enough; one place less is refused,
+/// and changes nothing; the surplus keeps its contents.
+fn written_back(tally: &mut Tally, random: &mut Random, lent: &Lent) {
+    let mut roomy = Lent { text: some_bytes(random, 9_000), ..lent.clone() };
+    let before = roomy.text.clone();
+    let gr = text_of(&mut roomy, write_gr);
+    tally.expect(roomy.text[gr.len()..] == before[gr.len()..], "the surplus of the text row is kept");
+    let co = text_of(&mut roomy, write_co);
+    let mut read = rows_for_reading();
+    let sizes = read_gr(&gr, &mut read);
+    tally.expect(sizes == Ok((lent.n, lent.m)), "a written graph has the same n and m");
+    read.n = lent.n;
+    tally.expect(read_co(&co, &mut read).is_ok(), "written places are accepted");
+    let first = |row: &[i64], own: &[i64], count: i64| row[..count as usize] == own[..count as usize];
+    let arcs = [(&read.tails, &lent.tails), (&read.heads, &lent.heads), (&read.weights, &lent.weights)];
+    tally.expect(arcs.iter().all(|(row, own)| first(row, own, lent.m)), "written arcs are read back");
+    let places = [(&read.x, &lent.x), (&read.y, &lent.y)];
+    tally.expect(places.iter().all(|(row, own)| first(row, own, lent.n)), "written places are read back");
+    for (text, write) in [(gr, write_gr as fn(&mut Lent) -> Result<i64, Refusal>), (co, write_co)] {
+        let mut exact = Lent { text: vec![7; text.len()], ..lent.clone() };
+        tally.expect(text_of(&mut exact, write) == text, "the exact length is room enough");
+        let mut short = Lent { text: vec![7; text.len() - 1], ..lent.clone() };
+        tally.expect(write(&mut short) == refused(2, &[]), "a place less is not");
+        tally.expect(short.text == vec![7; text.len() - 1], "and the row stays as it was");
+    }
+}
+
+/// Writing what was read gives the same text exactly when it had no comments, ended in byte 10 and, for .co,
+/// listed the nodes in ascending order.
+fn rewritten(tally: &mut Tally, random: &mut Random, texts: (Vec<u8>, Vec<u8>)) {
+    let (mut gr, mut co) = texts;
+    for text in [&mut gr, &mut co] {
+        if random.once_in(3) {
+            text.pop();
+        }
+    }
+    let plain = |text: &[u8]| lines(text).iter().all(|line| fields(line)[0] != b"c") && text.ends_with(b"\n");
+    let nodes = |text: &[u8]| -> Vec<i64> {
+        let of_nodes = lines(text).into_iter().map(fields).filter(|fields| fields[0] == b"v");
+        of_nodes.map(|fields| number(fields[1]).expect("a node has a number")).collect()
+    };
+    let ascending = nodes(&co).windows(2).all(|pair| pair[0] < pair[1]);
+    let mut lent = rows_for_reading();
+    lent.text = vec![0; 40_960];
+    (lent.n, lent.m) = read_gr(&gr, &mut lent).expect("the text is accepted");
+    read_co(&co, &mut lent).expect("the text is accepted");
+    tally.expect((text_of(&mut lent, write_gr) == gr) == plain(&gr), "a plain .gr comes back, and no other");
+    let same = text_of(&mut lent, write_co) == co;
+    tally.expect(same == (plain(&co) && ascending), "a plain .co in order comes back, and no other");
+}
+
+/// The longest texts, which a reader takes.
+fn longest_texts(tally: &mut Tally) {
+    let (n, m) = (NODES as usize, ARCS as usize);
+    let mut lent = Lent { n: NODES, m: ARCS, text: vec![0; 40_960], ..Lent::default() };
+    (lent.tails, lent.heads, lent.weights) = (vec![NODES; m], vec![NODES; m], vec![WEIGHT; m]);
+    (lent.x, lent.y) = (vec![-COORDINATE; n], vec![-COORDINATE; n]);
+    tally.expect(write_gr(&mut lent) == Ok(36_878), "the longest .gr has 36,878 bytes");
+    tally.expect(write_co(&mut lent) == Ok(12_196), "the longest .co has 12,196 bytes");
+    tally.expect(36_878 <= TEXT_BYTES, "and is never too long for a reader");
 }
 
 /// Every side of a tight box touches the head or a node of S(e).
@@ -258,6 +333,8 @@ fn coverage(tally: &mut Tally) {
             let begin = format!("refused {refusal} ");
             tally.expect(replies.iter().any(|reply| reply.starts_with(&begin)), format!("{name}: {begin}"));
         }
+        let unwritten = "refused 0 0 (the file cannot be written)";
+        tally.expect(replies.contains(unwritten), format!("{name}: {unwritten}"));
         for words in FAULT_WORDS {
             let too_long = name == "small" && words == FAULT_WORDS[Fault::LongLine as usize];
             let seen = replies.contains(format!("? {words}").as_str());

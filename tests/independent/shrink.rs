@@ -130,7 +130,7 @@ fn excerpt(reply: &[u8], same: usize) -> String {
 }
 
 /// Bytes as `printf` takes them between single quotes.
-fn escaped(bytes: &[u8]) -> String {
+pub fn escaped(bytes: &[u8]) -> String {
     let one = |byte: &u8| match byte {
         b'\n' => "\\n".to_string(),
         b'%' => "%%".to_string(),

@@ -6,7 +6,7 @@ pub fn exchanges(talk: &str) -> Vec<(&str, &str)> {
     said.map(|line| line.split_once(" => ").unwrap_or((line, "ok"))).collect()
 }
 
-pub const TALKS: [&str; 3] = [WORKED, SMALL, AROUND_ZERO];
+pub const TALKS: [&str; 4] = [WORKED, SMALL, AROUND_ZERO, WRITTEN];
 
 /// 'A hall plan worked through', lent by hand into rows of just the places needed.
 const WORKED: &str = "\
@@ -54,6 +54,64 @@ search 1 4 => ok 6 1 4 5
 boxed 1 4 => ok 6 1 4 5
 show route => route 5 4 0 0
 check
+";
+
+/// The hall plan written back: `p sp 4 6`, six arc lines of eight bytes; `p aux sp co 4`, four node lines.
+const WRITTEN: &str = "\
+fresh
+gr hall.gr => ok 4 6
+co hall.co
+write gr => ok 57
+show text 18 => text 112 32 115 112 32 52 32 54 10 97 32 49 32 50 32 51 10 97
+write co => ok 50
+show text 61 => text 112 32 97 117 120 32 115 112 32 99 111 32 52 10 118 32 49 32 48 32 48 10 118 32 50 32 49 48 32 48 10 118 32 51 32 49 48 32 53 10 118 32 52 32 45 53 32 50 48 10 32 52 32 49 32 52 10 0 0 0 0
+-- The exact length is room enough, a place less is not.
+lend text 7 7
+write gr => refused 2 (a lent row is too short)
+show text => text 7 7
+n 1
+m 0
+lend text 7 7 7 7 7 7 7 7
+write gr => refused 2 (a lent row is too short)
+show text => text 7 7 7 7 7 7 7 7
+lend text 7 7 7 7 7 7 7 7 7
+write gr => ok 9
+show text => text 112 32 115 112 32 49 32 48 10
+-- Refusals: 5, then 2 for the number rows, then 8 or 9, last 2. For .co m is not looked at.
+lend text
+lend tails 1 0
+lend heads 1 1
+lend weights 0
+lend x 1000001
+lend y
+n 513
+m 2
+write gr => refused 5 0 (n, m or the new weight is beyond its limits)
+write co => refused 5 0 (n, m or the new weight is beyond its limits)
+n 1
+write gr => refused 2 (a lent row is too short)
+write co => refused 2 (a lent row is too short)
+lend weights 0 0
+lend y 0
+write gr => refused 8 2 (arc 2 has a bad node or weight)
+write co => refused 9 1 (node 1 has a bad coordinate)
+m 1
+write gr => refused 2 (a lent row is too short)
+m 4294967295
+lend x 1000000
+write gr => refused 5 0 (n, m or the new weight is beyond its limits)
+write co => refused 2 (a lent row is too short)
+save co hall-again.co => refused 2 (a lent row is too short)
+lend text 0 0 0 0 0 0 0 0 0 0 0 0 0 0 0 0 0 0 0 0 0 0 0 0 0 0 0 0
+write co => ok 28
+save co missing/hall.co => refused 0 0 (the file cannot be written)
+save co . => refused 0 0 (the file cannot be written)
+save co hall-again.co => ok 28
+show text 2 => text 112 32
+fresh
+n 1
+co hall-again.co
+show x 2 => x 1000000 0
 ";
 
 /// Smaller networks of 01, a triangle, and the errors that learners bring.

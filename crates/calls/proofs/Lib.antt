@@ -1,2 +1,3 @@
 mod CallLaws
 pub mod Unique
+pub mod WritingLaws

@@ -1,6 +1,7 @@
 // What the console does with rows: the calls on a network, and the files that are read into it.
 pub mod network;
 pub mod texts;
+pub mod written;
 
 // The numbers that are handed in with the rows.
 pub struct Sizes {

@@ -30,7 +30,7 @@ use Rattle.commands.specs.declared.rows.Row.{Row}
 use Rattle.commands.specs.declared.rows.Stretch.{Stretch}
 use Rattle.commands.specs.declared.rows.RowName.{RowName}
 use Rattle.commands.specs.declared.rows.RowName.the-variants.{Known, Unknown}
-use Rattle.commands.proofs.WordLaws.{words-none, word-first, words-after}
+use Rattle.commands.proofs.WordLaws.{words-none, word-first, word-second, words-after}
 
 -- ---- a number, two numbers, or a row, as the first words
 
@@ -96,7 +96,7 @@ pub command-bad : (line : List ℕ) (j : Judged) (fault : Fault) → j ≡ lineJ
 unfolding commandOf
 command-bad line j fault p e = once-bad (lineJudged line) _ fault (sym p ∙ e)
 
-pub command-good : (line f : List ℕ) (j : Judged) (verb : Verb) (k : ℕ) (t : Bool) → j ≡ lineJudged line → j ≡ Good → f ≡ firstField line → verb ≡ verbOf f → k ≡ length (wordsOf line) → t ≡ takesWords verb k
+pub command-good : (line f g more : List ℕ) (j : Judged) (verb : Verb) (k : ℕ) (t : Bool) → j ≡ lineJudged line → j ≡ Good → f ≡ firstField line → more ≡ afterWord line → g ≡ firstField more → verb ≡ verbOf f g → k ≡ length (wordsOf line) → t ≡ takesWords verb k
     → commandOf line ≡ cond t (asked verb (drop 1 (wordsOf line))) (Faulty WordCount)
 unfolding commandOf
-command-good line f j verb k t p e q v l h = once-good (lineJudged line) _ (sym p ∙ e) ∙ rw (h, l, v, q, word-first line)
+command-good line f g more j verb k t p e q a b v l h = once-good (lineJudged line) _ (sym p ∙ e) ∙ rw (h, l, v, b, a, q, word-first line, word-second line)

@@ -16,7 +16,7 @@ use Rattle.commands.specs.declared.Call.the-variants as call
 use Rattle.commands.specs.declared.Shown.the-variants.{All, First}
 use Rattle.commands.specs.declared.Request.the-variants as request
 use Rattle.commands.specs.declared.Command.{Command}
-use Rattle.commands.specs.declared.Command.the-variants.{Faulty, Lend, Fresh, Other}
+use Rattle.commands.specs.declared.Command.the-variants.{Faulty, Lend, Fresh, Save, Other}
 use Rattle.commands.specs.declared.arguments.Pair.{Pair}
 use Rattle.commands.specs.declared.arguments.Pair.the-variants as pair
 use Rattle.commands.specs.declared.faults.Judged.{Judged}
@@ -122,6 +122,8 @@ asked verb.Check words = Other (request.Call call.Check)
 asked verb.Update words = withPair (pairIn words) (λ arc weight. Other (request.Call (call.Update arc weight)))
 asked verb.Search words = withPair (pairIn words) (λ s t. Other (request.Call (call.Search s t)))
 asked verb.Boxed words = withPair (pairIn words) (λ s t. Other (request.Call (call.Boxed s t)))
+asked (verb.Write format) words = Other (request.Write format)
+asked (verb.Save format) words = Save format
 asked verb.Fresh words = Fresh
 asked verb.Help words = Other request.Help
 asked verb.NoVerb words = Faulty NoCommand
@@ -131,5 +133,5 @@ asked verb.NoVerb words = Faulty NoCommand
 unfoldable pub commandOf : List ℕ → Command
 commandOf line =
     let words = wordsOf line in
-    let verb = verbOf (word 0 words) in
+    let verb = verbOf (word 0 words) (word 1 words) in
     onceGood (lineJudged line) (cond (takesWords verb (length words)) (asked verb (drop 1 words)) (Faulty WordCount))

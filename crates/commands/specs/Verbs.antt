@@ -1,4 +1,4 @@
--- The commands by their first words.
+-- The commands by their names.
 use Prim.Native.Nat.{ℕ}
 use mathlib.Core.List.{List, [], _∷_}
 use mathlib.Core.Bool.{Bool, true, _||_}
@@ -6,15 +6,32 @@ use lib.Dec.{eqb, leb}
 use lib.ListN.{getD}
 use Rattle.scan.specs.Ascii.{bytes}
 use Rattle.commands.specs.Words.{wordsOf, placeIn}
+use Rattle.commands.specs.declared.verbs.Format.{Format}
+use Rattle.commands.specs.declared.verbs.Format.the-variants.{Gr, Co}
+use Rattle.commands.specs.declared.verbs.FormatName.{FormatName}
+use Rattle.commands.specs.declared.verbs.FormatName.the-variants.{Known, Unknown}
 use Rattle.commands.specs.declared.verbs.Verb.{Verb}
 use Rattle.commands.specs.declared.verbs.Verb.the-variants as verb
 
-abbrev pub verbNames : List (List ℕ)
-verbNames = wordsOf (bytes "n m lend show gr co build check update search boxed fresh help")
+-- the kinds of files in the order of their names
+abbrev pub allFormats : List FormatName
+allFormats = Known Gr ∷ Known Co ∷ []
 
--- the commands in the order of their names
-abbrev pub allVerbs : List Verb
-allVerbs =
+-- the kind of file that a word names
+unfoldable pub formatOf : List ℕ → FormatName
+formatOf word = getD allFormats (placeIn word (wordsOf (bytes "gr co"))) Unknown
+
+-- a command of which the kind of file is a part of the name
+abbrev pub with : (Format → Verb) → FormatName → Verb
+with command (Known format) = command format
+with command Unknown = verb.NoVerb
+
+abbrev pub verbNames : List (List ℕ)
+verbNames = wordsOf (bytes "n m lend show gr co build check update search boxed write save fresh help")
+
+-- the commands in the order of their names, where the second word names such a kind of file
+abbrev pub allVerbs : FormatName → List Verb
+allVerbs format =
     verb.N
     ∷ verb.M
     ∷ verb.Lend
@@ -26,13 +43,15 @@ allVerbs =
     ∷ verb.Update
     ∷ verb.Search
     ∷ verb.Boxed
+    ∷ with verb.Write format
+    ∷ with verb.Save format
     ∷ verb.Fresh
     ∷ verb.Help
     ∷ []
 
--- the command that a line's first word names
-unfoldable pub verbOf : List ℕ → Verb
-verbOf word = getD allVerbs (placeIn word verbNames) verb.NoVerb
+-- the command that a line's first two words name
+unfoldable pub verbOf : List ℕ → List ℕ → Verb
+verbOf first second = getD (allVerbs (formatOf second)) (placeIn first verbNames) verb.NoVerb
 
 -- whether a line may have so many words, the command included; what is no command is told as such, whatever follows
 abbrev pub takesWords : Verb → ℕ → Bool
@@ -47,6 +66,8 @@ takesWords verb.Check words = eqb words 1
 takesWords verb.Update words = eqb words 3
 takesWords verb.Search words = eqb words 3
 takesWords verb.Boxed words = eqb words 3
+takesWords (verb.Write format) words = eqb words 2
+takesWords (verb.Save format) words = eqb words 3
 takesWords verb.Fresh words = eqb words 1
 takesWords verb.Help words = eqb words 1
 takesWords verb.NoVerb words = true

@@ -110,6 +110,8 @@ pub fn ask(verb: Verb, words: &[u8]) -> Command
             Pair::Are(s, t) => Command::Other(Request::Call(Call::Boxed(s, t))),
             Pair::Not(fault) => Command::Faulty(fault),
         },
+        Verb::Write(format) => Command::Other(Request::Write(format)),
+        Verb::Save(format) => Command::Save(format),
         Verb::Fresh => Command::Fresh,
         Verb::Help => Command::Other(Request::Help),
         Verb::NoVerb => Command::Faulty(Fault::NoCommand),

@@ -13,6 +13,7 @@ use crate::arguments::ask;
 use crate::faults::Judged;
 use crate::faults::judge_line;
 use crate::rows::Row;
+use crate::verbs::Format;
 use crate::verbs::takes;
 use crate::verbs::verb_of;
 use crate::words::after_word;
@@ -56,15 +57,17 @@ pub enum Request {
     Show(Row, Shown),
     ReadGr,
     ReadCo,
+    Write(Format),
     Call(Call),
     Help,
 }
 
-// What a line asks for. The values of `lend` are read from the line again.
+// What a line asks for. The values of `lend`, and the name of the file of `save`, are read from the line again.
 pub enum Command {
     Faulty(Fault),
     Lend(Row),
     Fresh,
+    Save(Format),
     Other(Request),
 }
 
@@ -74,7 +77,7 @@ pub fn command_of(line: &[u8]) -> Command
 {
     let judged = judge_line(line);
     let Judged::Bad(fault) = judged else {
-        let verb = verb_of(first_word(line));
+        let verb = verb_of(first_word(line), first_word(after_word(line)));
         if takes(verb, count_words(line)) {
             return ask(verb, after_word(line));
         }

@@ -11,6 +11,7 @@ pub enum Row {
     Y,
     Boxes,
     Route,
+    Text,
 }
 
 pub enum RowName {
@@ -67,12 +68,13 @@ impl Row {
             Row::Y => stretch_from(Kind::Numbers, 4, 1024, 1024),
             Row::Boxes => stretch_from(Kind::Numbers, 5, 2048, 16384),
             Row::Route => stretch_from(Kind::Counts, 6, 12288, 1024),
+            Row::Text => stretch_from(Kind::Bytes, 7, 0, 40960),
         }
     }
 }
 
 // The names of the rows, in the order of their numbers.
-pub const ROW_NAMES: [u8; 35] = *b"tails heads weights x y boxes route";
+pub const ROW_NAMES: [u8; 40] = *b"tails heads weights x y boxes route text";
 
 // The row that a word names.
 pub fn row_of(word: &[u8]) -> RowName
@@ -86,6 +88,7 @@ pub fn row_of(word: &[u8]) -> RowName
         4 => RowName::Known(Row::Y),
         5 => RowName::Known(Row::Boxes),
         6 => RowName::Known(Row::Route),
+        7 => RowName::Known(Row::Text),
         _ => RowName::Unknown,
     }
 }

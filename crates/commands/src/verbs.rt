@@ -1,9 +1,31 @@
 // The names of commands.
 ghost use mathlib.Core.Path.{_≡_};
-ghost use Rattle.commands.specs.Verbs.{verbOf, takesWords};
+ghost use Rattle.commands.specs.Verbs.{formatOf, verbOf, takesWords};
 use crate::names::place_of;
 
-// The commands by their first words.
+// The kinds of files.
+pub enum Format {
+    Gr,
+    Co,
+}
+
+pub enum FormatName {
+    Known(Format),
+    Unknown,
+}
+
+// The kind of file that a word names.
+fn format_of(word: &[u8]) -> FormatName
+    ensures { λ r. ⌜ r ≡ formatOf (now (word .entry)) ⌝ }
+{
+    match place_of(word, b"gr co") {
+        0 => FormatName::Known(Format::Gr),
+        1 => FormatName::Known(Format::Co),
+        _ => FormatName::Unknown,
+    }
+}
+
+// The commands by their names.
 pub enum Verb {
     N,
     M,
@@ -16,18 +38,21 @@ pub enum Verb {
     Update,
     Search,
     Boxed,
+    Write(Format),
+    Save(Format),
     Fresh,
     Help,
     NoVerb,
 }
 
-// The command that a line's first word names.
-pub fn verb_of(word: &[u8]) -> Verb
-    ensures { λ r. ⌜ r ≡ verbOf (now (word .entry)) ⌝ }
+// The command that a line's first two words name. Of `write` and `save` the kind of file is a part of the name.
+pub fn verb_of(first: &[u8], second: &[u8]) -> Verb
+    ensures { λ r. ⌜ r ≡ verbOf (now (first .entry)) (now (second .entry)) ⌝ }
 {
+    let format = format_of(second);
     match place_of(
-        word,
-        b"n m lend show gr co build check update search boxed fresh help",
+        first,
+        b"n m lend show gr co build check update search boxed write save fresh help",
     ) {
         0 => Verb::N,
         1 => Verb::M,
@@ -40,8 +65,16 @@ pub fn verb_of(word: &[u8]) -> Verb
         8 => Verb::Update,
         9 => Verb::Search,
         10 => Verb::Boxed,
-        11 => Verb::Fresh,
-        12 => Verb::Help,
+        11 => match format {
+            FormatName::Known(f) => Verb::Write(f),
+            FormatName::Unknown => Verb::NoVerb,
+        },
+        12 => match format {
+            FormatName::Known(f) => Verb::Save(f),
+            FormatName::Unknown => Verb::NoVerb,
+        },
+        13 => Verb::Fresh,
+        14 => Verb::Help,
         _ => Verb::NoVerb,
     }
 }
@@ -62,6 +95,8 @@ pub fn takes(verb: Verb, words: usize) -> bool
         Verb::Update => words == 3,
         Verb::Search => words == 3,
         Verb::Boxed => words == 3,
+        Verb::Write(_format) => words == 2,
+        Verb::Save(_format) => words == 3,
         Verb::Fresh => words == 1,
         Verb::Help => words == 1,
         Verb::NoVerb => true,

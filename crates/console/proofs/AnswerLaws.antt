@@ -8,15 +8,16 @@ use Rattle.files.specs.File.{Held, unread}
 use Rattle.pages.specs.Page.{Puts, Replied}
 use Rattle.commands.specs.Words.{wordsOf}
 use Rattle.commands.specs.declared.Command.{Command}
-use Rattle.commands.specs.declared.Command.the-variants.{Lend, Fresh, Other}
+use Rattle.commands.specs.declared.Command.the-variants.{Lend, Fresh, Save, Other}
 use Rattle.commands.specs.declared.Request.{Request}
 use Rattle.commands.specs.declared.rows.Row.{Row}
+use Rattle.commands.specs.declared.verbs.Format.{Format}
 use Rattle.lending.specs.Stores.{Stores, cleared, lentIn}
 use Rattle.lending.specs.Lending.{storedIn}
 use Rattle.lending.specs.declared.rows.Lent.{Lent}
 use Rattle.replies.specs.Replies.{okLine}
 use Rattle.requests.specs.Desk.{Desk}
-use Rattle.requests.specs.Requests.{Obeyed}
+use Rattle.requests.specs.Requests.{Obeyed, SavesDesk}
 use Rattle.console.specs.Input.{askedBy}
 use Rattle.console.specs.State.{fresh}
 use Rattle.console.specs.Answers.{Answers, Answered, isOver}
@@ -51,3 +52,7 @@ module _ {line words : List ℕ} {bytes : ℕ} {ended : Bool} {asks case : Comma
 pub obeyed-as : {words : List ℕ} {asks : Request} {before after : Desk} {page page′ : List ℕ} {end : ℕ} → Obeyed before asks after page end page′
     → Replied (λ held reply. Answers held words before (Other asks) reply after) page end page′
 obeyed-as r = record { held = r .held; reply = r .reply; says = Answers.meets (r .says); puts = r .puts }
+
+pub saved-as : {words : List ℕ} {format : Format} {d : Desk} {page page′ : List ℕ} {end : ℕ} → Replied (λ (held : Held) reply. SavesDesk held d format reply) page end page′
+    → Replied (λ held reply. Answers held words d (Save format) reply d) page end page′
+saved-as r = record { held = r .held; reply = r .reply; says = Answers.saves (r .says); puts = r .puts }

@@ -13,11 +13,12 @@ use Rattle.commands.specs.declared.Request.{Request}
 use Rattle.commands.specs.declared.Command.{Command}
 use Rattle.commands.specs.declared.Command.the-variants as command
 use Rattle.commands.specs.declared.rows.Row.{Row}
+use Rattle.commands.specs.declared.verbs.Format.{Format}
 use Rattle.lending.specs.Stores.{cleared, allLent, lentIn}
 use Rattle.lending.specs.Lending.{storedIn}
 use Rattle.replies.specs.Replies.{okLine, faultLine}
 use Rattle.requests.specs.Desk.{Desk}
-use Rattle.requests.specs.Requests.{AsksNoFile, Meets}
+use Rattle.requests.specs.Requests.{AsksNoFile, Meets, SavesDesk}
 use Rattle.console.specs.Input.{askedBy}
 
 -- the desk once the values that words spell are stored in a row, and as many of its places are lent
@@ -29,6 +30,7 @@ pub data Answers (held : Held) (line : List ℕ) (d : Desk) : Command → List �
   faulty : {fault : Fault} → Answers held line d (command.Faulty fault) (faultLine fault) d
   lends : {r : Row} → Answers held line d (command.Lend r) okLine (lending r (drop 2 (wordsOf line)) d)
   fresh : Answers held line d command.Fresh okLine (record { sizes = record { n = 0; m = 0 }; lent = allLent; all = cleared (d .all) })
+  saves : {format : Format} {reply : List ℕ} → SavesDesk held d format reply → Answers held line d (command.Save format) reply d
   meets : {request : Request} {reply : List ℕ} {after : Desk} → Meets held d request reply after → Answers held line d (command.Other request) reply after
 
 -- the input has ended, and no byte was left for a line
@@ -44,9 +46,10 @@ pub data Answered (line : List ℕ) (bytes : ℕ) (ended : Bool) (before : Desk)
       → Replied (λ held reply. Answers held (take bytes line) before (askedBy line bytes) reply after) page end page′
       → Answered line bytes ended before page end after page′
 
--- a command that names no file: all but `gr` and `co`
+-- a command that names no file: all but `gr`, `co` and `save`
 abbrev pub NamesNoFile : Command → Type 0
 NamesNoFile (command.Faulty fault) = Unit
 NamesNoFile (command.Lend r) = Unit
 NamesNoFile command.Fresh = Unit
+NamesNoFile (command.Save format) = ⊥
 NamesNoFile (command.Other asks) = AsksNoFile asks

@@ -17,6 +17,7 @@ use pages::PAGE;
 use replies::words::put_fault;
 use replies::words::put_ok;
 use requests::obey;
+use requests::written::save;
 use scan::pieces::front;
 
 // What a line of so many bytes asks for.
@@ -90,6 +91,13 @@ pub fn answer(
                 lent: all,
                 sizes: none,
                 end: put_ok(page),
+            };
+        }
+        Command::Save(format) => {
+            return State {
+                lent,
+                sizes,
+                end: save(page, words, format, sizes, lent, counts, numbers, bytes),
             };
         }
         Command::Other(request) => {

@@ -42,7 +42,7 @@ pub not-accepted : (r : Refusal) (results : List ℕ) → refusal r ≡ accepted
 not-accepted r results e = refusal-nonzero r (sym (ap (λ (x : Reply). x .number) e))
 
 -- what stands in front of a row
-front : {A : Type 0} (f : Numbers → A) (lines : List Numbers) (old : List A) (i : ℕ) (d : A) → i < length lines → getD (map f lines ++ old) i d ≡ f (getD lines i none)
+pub front : {A : Type 0} (f : Numbers → A) (lines : List Numbers) (old : List A) (i : ℕ) (d : A) → i < length lines → getD (map f lines ++ old) i d ≡ f (getD lines i none)
 front f [] old i d h = absurd (omega arith)
 front f (l ∷ lines) old zero d h = refl
 front f (l ∷ lines) old (suc i) d h = front f lines old i d (le-of-suc-le-suc h)
@@ -81,7 +81,7 @@ gr-lines text p lines a b c e =
     }
 
 -- what was accepted was read
-gr-read : (text a b c : List ℕ) (p : Numbers) (lines : List Numbers) → readGr text a b c ≡ read p lines → readText Graph text ≡ read p lines
+pub gr-read : (text a b c : List ℕ) (p : Numbers) (lines : List Numbers) → readGr text a b c ≡ read p lines → readText Graph text ≡ read p lines
 unfolding readGr
 gr-read text a b c p lines e = onward _ _ _ _ e .1
 
@@ -118,8 +118,8 @@ co-lines n ok text p lines a b e =
       y-most = λ k h. rw (front (axisOf Y) lines b k (pos 0) (at k h)) (shown (line k h .high .y));
     }
 
-co-read : (text : List ℕ) (n : ℕ) (a b : List ℤ) (p : Numbers) (lines : List Numbers) → readCo text n a b ≡ read p lines
-    → (n ≤ 512) × (readText (Coordinates n) text ≡ read p lines)
+pub co-read : (text : List ℕ) (n : ℕ) (a b : List ℤ) (p : Numbers) (lines : List Numbers) → readCo text n a b ≡ read p lines
+    → (1 ≤ n) × (n ≤ 512) × (readText (Coordinates n) text ≡ read p lines)
 unfolding readCo
 co-read text n a b p lines e =
     let wide = leb mostNodes (length a) && leb mostNodes (length b) in
@@ -129,18 +129,18 @@ co-read text n a b p lines e =
     let g = both-fine (passes wide RowTooShort) (orElse given Fine) (f .1) in
     let h = both-fine given Fine (g .1) in
     let i = and-true (leb 1 n) (leb n mostNodes) (passed _ _ (h .0)) in
-    (leb-true _ _ (i .1), d .1)
+    (leb-true _ _ (i .0), leb-true _ _ (i .1), d .1)
 
 co-limits : (text : List ℕ) (n : ℕ) (a b : List ℤ) → coSays (readCo text n a b) ≡ accepted []
     → CoLimits n (row (axisOf X) (readCo text n a b) a) (row (axisOf Y) (readCo text n a b) b)
 unfolding coSays row
 co-limits text n a b e = by-outcome (readCo text n a b) (co-read text n a b) e
   where
-    by-outcome : (o : Outcome) → ((p : Numbers) (lines : List Numbers) → o ≡ read p lines → (n ≤ 512) × (readText (Coordinates n) text ≡ read p lines)) → coSays o ≡ accepted []
+    by-outcome : (o : Outcome) → ((p : Numbers) (lines : List Numbers) → o ≡ read p lines → (1 ≤ n) × (n ≤ 512) × (readText (Coordinates n) text ≡ read p lines)) → coSays o ≡ accepted []
         → CoLimits n (row (axisOf X) o a) (row (axisOf Y) o b)
     by-outcome (read p lines) from d =
         let f = from p lines refl in
-        co-lines n (f .0) text p lines (drop (length lines) a) (drop (length lines) b) (f .1)
+        co-lines n (f .1) text p lines (drop (length lines) a) (drop (length lines) b) (f .2)
     by-outcome (refused r) from d = absurd (not-accepted r [] d)
 
 -- each node has its line: at a node's place stands the line that names it
@@ -149,8 +149,8 @@ pub co-nodes : (text : List ℕ) (n : ℕ) (a b : List ℤ) (p : Numbers) (lines
 unfolding coRules
 co-nodes text n a b p lines e =
     let f = co-read text n a b p lines e in
-    let s = sound (Coordinates n) (f .0) text p lines (f .1) in
-    let all : p .first ≡ n = co-count n text p lines (f .0) (f .1) .0 in
+    let s = sound (Coordinates n) (f .1) text p lines (f .2) in
+    let all : p .first ≡ n = co-count n text p lines (f .1) (f .2) .0 in
     (s .long ∙ all, λ i h. s .entry i (omega arith) .node refl)
 
 -- ---- the rows that a reader leaves after it accepted

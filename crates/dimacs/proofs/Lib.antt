@@ -1,9 +1,12 @@
 pub mod Accepted
-mod Counting
-mod Fairness
-mod Reading
-mod Replies
-mod RowLaws
-mod Sound
+pub mod Counting
+pub mod Fairness
+pub mod Reading
+pub mod Replies
+pub mod RowLaws
+pub mod Sound
 pub mod Unique
 pub mod Worked
+pub mod FormLaws
+pub mod TextLaws
+pub mod BeginLaws

@@ -14,8 +14,7 @@ use Rattle.scan.specs.Pieces.{opening, pieces, firstAt, sameBytes}
 use Rattle.scan.specs.Numbers.{valueFrom, naturalOf, plain, negated, integerOf}
 use Rattle.scan.specs.Fields.{before, takenNatural, takenInteger, taken, onField, matched}
 use Rattle.scan.specs.Line.{lineOf}
-use Rattle.scan.specs.declared.holding.Numbers.{Numbers}
-use Rattle.dimacs.specs.Rules.{naturals, within}
+use Rattle.dimacs.specs.Rules.{naturals, located, within}
 use Rattle.dimacs.specs.Gr.{grLine, grRules}
 use Rattle.dimacs.specs.Co.{coLine, coRules}
 use Rattle.dimacs.specs.Judgement.{problemJudged, dataJudged, judged, ended}
@@ -40,9 +39,6 @@ gr line = readText Graph (bytes "p sp 2 1\n" ++ line)
 
 abbrev co : List ℕ → Outcome
 co line = readText (Coordinates 2) (bytes "p aux sp co 2\n" ++ line)
-
-abbrev located : ℕ → ℤ → ℤ → Numbers
-located node x y = record { first = node; second = 0; third = 0; x = x; y = y }
 
 pub worked-texts :
     (readText Graph netGr ≡ read (naturals 4 6 0) (naturals 1 2 3 ∷ naturals 2 3 2 ∷ naturals 1 3 5 ∷ naturals 3 4 1 ∷ naturals 1 4 9 ∷ naturals 4 1 4 ∷ []))

@@ -6,12 +6,19 @@ use Rattle.rules.specs.Limits.{mostNodes, leastCoordinate, mostCoordinate}
 use Rattle.scan.specs.Ascii.{bytes}
 use Rattle.scan.specs.Line.{lineOf}
 use Rattle.scan.specs.declared.line.Line.{Line}
-use Rattle.dimacs.specs.Rules.{naturals}
+use Rattle.dimacs.specs.Rules.{naturals, located}
 use Rattle.dimacs.specs.declared.rows.Column.the-variants.{First}
 use Rattle.dimacs.specs.declared.format.Rules.{Rules}
 
+-- the forms of the problem line and of a node's line
+abbrev pub coProblem : List ℕ
+coProblem = bytes "p aux sp co N"
+
+abbrev pub coNode : List ℕ
+coNode = bytes "v ID X Y"
+
 unfoldable pub coLine : List ℕ → Line
-coLine s = lineOf (bytes "p aux sp co N") (bytes "v ID X Y") s
+coLine s = lineOf coProblem coNode s
 
 -- for a graph of n nodes. `p aux sp co N`: N from 1 to 512, and equal to n; it counts the node lines.
 -- `v ID X Y`: ID from 1 to n, X and Y from -1,000,000 to 1,000,000; each node once.
@@ -22,9 +29,6 @@ coRules n =
       count = First;
       fewest = n;
       most = n;
-      entries = record {
-        least = record { first = 1; second = 0; third = 0; x = leastCoordinate; y = leastCoordinate };
-        most = record { first = n; second = 0; third = 0; x = mostCoordinate; y = mostCoordinate };
-      };
+      entries = record { least = located 1 leastCoordinate leastCoordinate; most = located n mostCoordinate mostCoordinate };
       once = true;
     }

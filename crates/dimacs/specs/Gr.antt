@@ -10,8 +10,15 @@ use Rattle.dimacs.specs.Rules.{naturals}
 use Rattle.dimacs.specs.declared.rows.Column.the-variants.{Second}
 use Rattle.dimacs.specs.declared.format.Rules.{Rules}
 
+-- the forms of the problem line and of an arc's line
+abbrev pub grProblem : List ℕ
+grProblem = bytes "p sp N M"
+
+abbrev pub grArc : List ℕ
+grArc = bytes "a U V W"
+
 unfoldable pub grLine : List ℕ → Line
-grLine s = lineOf (bytes "p sp N M") (bytes "a U V W") s
+grLine s = lineOf grProblem grArc s
 
 -- after a problem line with N = n. `p sp N M`: N from 1 to 512, M from 0 to 2,048; M, the second, counts the arc lines.
 -- `a U V W`: U and V from 1 to N, W from 0 to 1,000,000; in the file's order.

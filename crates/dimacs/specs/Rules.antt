@@ -24,6 +24,10 @@ axisOf Y ns = ns .y
 abbrev pub naturals : ℕ → ℕ → ℕ → Numbers
 naturals first second third = record { first = first; second = second; third = third; x = pos 0; y = pos 0 }
 
+-- a number without sign and two that may have a minus
+abbrev pub located : ℕ → ℤ → ℤ → Numbers
+located node x y = record { first = node; second = 0; third = 0; x = x; y = y }
+
 -- each number of a is at most its fellow of b
 abbrev pub noneAbove : Numbers → Numbers → Bool
 noneAbove a b = leb (a .first) (b .first) && leb (a .second) (b .second) && leb (a .third) (b .third) && leZ (a .x) (b .x) && leZ (a .y) (b .y)

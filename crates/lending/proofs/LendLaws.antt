@@ -16,7 +16,7 @@ use Rattle.commands.specs.declared.Shown.the-variants.{First}
 use Rattle.commands.specs.declared.Request.{Request}
 use Rattle.commands.specs.declared.Request.the-variants as request
 use Rattle.commands.specs.declared.Command.{Command}
-use Rattle.commands.specs.declared.Command.the-variants.{Faulty, Lend, Fresh, Other}
+use Rattle.commands.specs.declared.Command.the-variants.{Faulty, Lend, Fresh, Save, Other}
 use Rattle.commands.specs.declared.arguments.Pair.{Pair}
 use Rattle.commands.specs.declared.arguments.Pair.the-variants as pair
 use Rattle.commands.specs.declared.faults.Judged.{Judged}
@@ -35,6 +35,7 @@ abbrev Promised : List (List ℕ) → Command → Type 0
 Promised values (Lend row) = (length values ≤ placesOf row) × (valuesJudged (kindOf row) values ≡ Good)
 Promised values (Faulty f) = record {}
 Promised values Fresh = record {}
+Promised values (Save format) = record {}
 Promised values (Other r) = record {}
 
 module _ (values : List (List ℕ)) where
@@ -86,6 +87,8 @@ module _ (values : List (List ℕ)) where
   verb-promised verb.Update ws e = with-pair (pairIn ws) (λ a b. request.Call (call.Update a b))
   verb-promised verb.Search ws e = with-pair (pairIn ws) (λ a b. request.Call (call.Search a b))
   verb-promised verb.Boxed ws e = with-pair (pairIn ws) (λ a b. request.Call (call.Boxed a b))
+  verb-promised (verb.Write format) ws e = record {}
+  verb-promised (verb.Save format) ws e = record {}
   verb-promised verb.Fresh ws e = record {}
   verb-promised verb.Help ws e = record {}
   verb-promised verb.NoVerb ws e = record {}
@@ -102,7 +105,7 @@ command-promised : (line : List ℕ) → Promised (drop 2 (wordsOf line)) (comma
 unfolding commandOf
 command-promised line =
     let ws = wordsOf line in
-    let v = verbOf (word 0 ws) in
+    let v = verbOf (word 0 ws) (word 1 ws) in
     once-good (drop 2 ws) (lineJudged line) _ (by-words (drop 2 ws) (takesWords v (length ws)) _ (verb-promised (drop 2 ws) v (drop 1 ws) (values-of line)))
 
 module _ (line more words : List ℕ) (p : more ≡ afterWord line) (q : words ≡ afterWord more) where

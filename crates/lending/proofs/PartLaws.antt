@@ -71,6 +71,15 @@ module _ (s : Stretch) (r : Row) (e : s ≡ stretchOf r) (l : Lies s) where
       rw (over, append-nil ys, p, whole, drop-drop (length values) a old)
       (ap (λ (t : Stretch). take (t .start) old ++ (values ++ drop (t .start + length values) old)) e)
 
+  -- a part that was lent to be written, with what is left in it
+  pub part-put-is : {A : Type 0} (k : ℕ) (store ys : List A) → length ys ≡ k
+      → take (s .start) store ++ (ys ++ drop (s .start + k - s .start) (drop (s .start) store)) ≡ putAt (stretchOf r) ys store
+  unfolding putAt
+  part-put-is k store ys n =
+      let d : s .start + k - s .start ≡ length ys = omega (arith, n) in
+      rw (d, drop-drop (length ys) (s .start) store)
+      (ap (λ (t : Stretch). take (t .start) store ++ (ys ++ drop (t .start + length ys) store)) e)
+
   -- there is room for them
   pub room-is : {A : Type 0} (old : List A) (n : ℕ) → n ≤ placesOf r → s .start + s .places ≤ length old → n ≤ length (take (length old - s .start) (drop (s .start) old))
   room-is old n h k =

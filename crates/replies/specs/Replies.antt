@@ -12,6 +12,8 @@ use Rattle.commands.specs.declared.Fault.{Fault}
 use Rattle.commands.specs.declared.Fault.the-variants.{LongLine, EmptyLine, ControlByte, EmptyWord, NoCommand, WordCount, NoRow, LongRow, Misspelt, BeyondType, FewerLent}
 use Rattle.search.specs.declared.Answer.{Answer}
 use Rattle.search.specs.declared.Answer.the-variants as answer
+use Rattle.writing.specs.declared.WriteReply.{WriteReply}
+use Rattle.writing.specs.declared.WriteReply.the-variants as write
 
 unfoldable pub okLine : List ℕ
 okLine = bytes "ok\n"
@@ -19,7 +21,7 @@ okLine = bytes "ok\n"
 unfoldable pub helpLine : List ℕ
 helpLine =
     bytes "commands: n N, m M, lend ROW VALUES, show ROW, show ROW K, gr FILE, co FILE, build, check, "
-    ++ bytes "update ARC WEIGHT, search S T, boxed S T, fresh, help; rows: tails, heads, weights, x, y, boxes, route\n"
+    ++ bytes "update ARC WEIGHT, search S T, boxed S T, write gr, write co, save gr FILE, save co FILE, fresh, help; rows: tails, heads, weights, x, y, boxes, route, text\n"
 
 -- `build`, `check`, `update`: `ok`, or why the call was refused
 unfoldable pub judgedLine : Judged → List ℕ
@@ -42,6 +44,15 @@ answerLine (answer.Found length arcs settled) route =
     ++ countsText (take arcs route)
     ++ bytes "\n"
 answerLine (answer.Refused r) route = refusalLine r
+
+-- `write`, `save`: the text's length, or why the writer refused
+unfoldable pub writtenLine : WriteReply → List ℕ
+writtenLine (write.Written length) = bytes "ok " ++ decimal length ++ bytes "\n"
+writtenLine (write.Refused r) = refusalLine r
+
+-- `save` where the file cannot be written
+unfoldable pub unsavedLine : List ℕ
+unsavedLine = bytes "refused 0 0 (the file cannot be written)\n"
 
 -- why a line is no command
 unfoldable pub faultLine : Fault → List ℕ

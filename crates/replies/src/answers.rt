@@ -1,15 +1,17 @@
-// The answers that hold numbers: of a search, and of a graph file.
+// The answers that hold numbers: of a search, of a graph file, and of a text that is written.
 ghost use Prim.Native.Nat.{_≤_};
 ghost use mathlib.Core.Path.{_≡_};
 ghost use lib.ListN.{length, take};
 ghost use Rattle.pages.specs.Page.{Puts};
-ghost use Rattle.replies.specs.Replies.{sizesLine, answerLine};
+ghost use Rattle.replies.specs.Replies.{sizesLine, answerLine, writtenLine};
 use pages::PAGE;
 use pages::put;
 use pages::put_after;
+use pages::put_decimal;
 use pages::rows::put_counts;
 use search::Answer;
 use wording::put_refusal;
+use writing::WriteReply;
 
 // The first k places of a row, or all where there are fewer.
 fn first_places(row: &[u32], k: usize) -> &[u32]
@@ -54,4 +56,21 @@ pub fn put_sizes(page: &mut [u8; PAGE], n: u32, m: u32) -> usize
     let a = put_after(page, 0, b"ok ", n);
     let b = put_after(page, a, b" ", m);
     put(page, b, b"\n")
+}
+
+// `ok` and the length of a text that is written, or why it is refused.
+pub fn put_written(page: &mut [u8; PAGE], reply: WriteReply) -> usize
+    ensures { λ r. ⌜ Puts (writtenLine reply) 0 (now (page .entry)) r (now (page .exit)) ⌝ }
+    ensures { λ r. ⌜ r ≤ 1000 ⌝ }
+{
+    match reply {
+        WriteReply::Written(bytes) => {
+            let a = put(page, 0, b"ok ");
+            let b = put_decimal(page, a, bytes as u64);
+            return put(page, b, b"\n");
+        }
+        WriteReply::Refused(r) => {
+            return put_refusal(page, r);
+        }
+    }
 }

@@ -1,7 +1,7 @@
 // The replies that are fixed words.
 ghost use Prim.Native.Nat.{_≤_};
 ghost use Rattle.pages.specs.Page.{Puts};
-ghost use Rattle.replies.specs.Replies.{okLine, helpLine, judgedLine, faultLine};
+ghost use Rattle.replies.specs.Replies.{okLine, helpLine, unsavedLine, judgedLine, faultLine};
 use commands::Fault;
 use pages::PAGE;
 use pages::put;
@@ -27,8 +27,16 @@ pub fn put_help(page: &mut [u8; PAGE]) -> usize
     put(
         page,
         a,
-        b"update ARC WEIGHT, search S T, boxed S T, fresh, help; rows: tails, heads, weights, x, y, boxes, route\n",
+        b"update ARC WEIGHT, search S T, boxed S T, write gr, write co, save gr FILE, save co FILE, fresh, help; rows: tails, heads, weights, x, y, boxes, route, text\n",
     )
+}
+
+// A file cannot be written.
+pub fn put_unsaved(page: &mut [u8; PAGE]) -> usize
+    ensures { λ r. ⌜ Puts unsavedLine 0 (now (page .entry)) r (now (page .exit)) ⌝ }
+    ensures { λ r. ⌜ r ≤ 1000 ⌝ }
+{
+    put(page, 0, b"refused 0 0 (the file cannot be written)\n")
 }
 
 // `ok`, or why a call was refused.

@@ -1,3 +1,4 @@
 pub mod DeskLaws
 mod RequestLaws
 pub mod Unique
+mod WrittenLaws

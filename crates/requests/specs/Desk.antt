@@ -2,6 +2,7 @@
 use Prim.Native.Nat.{ℕ}
 use mathlib.Core.List.{List}
 use lib.IntN.{ℤ}
+use Rattle.walks.specs.Rows.{Rows, rows}
 use Rattle.commands.specs.Rows.{Value, kindOf}
 use Rattle.commands.specs.declared.rows.Row.{Row}
 use Rattle.commands.specs.declared.rows.Row.the-variants.{Tails, Heads, Weights, X, Y, Boxes, Route}
@@ -22,6 +23,10 @@ desk sizes lent counts numbers bytes = record { sizes = sizes; lent = lent; all 
 -- the lent places of a row
 abbrev pub row : (r : Row) → Desk → List (Value (kindOf r))
 row r d = rowOn r (d .lent) (d .all)
+
+-- the rows of the network
+abbrev pub arcRows : Desk → Rows
+arcRows d = rows (row Tails d) (row Heads d) (row Weights d)
 
 -- the desk with other values in a row's first places
 abbrev pub put : (r : Row) → List (Value (kindOf r)) → Desk → Desk

@@ -2,6 +2,7 @@
 use Prim.Native.Nat.{ℕ}
 use mathlib.Core.List.{List}
 use lib.IntN.{ℤ}
+use lib.ListN.{length}
 use Rattle.files.specs.File.{Held}
 use Rattle.pages.specs.Page.{Printed, Replied}
 use Rattle.commands.specs.declared.Call.{Call}
@@ -9,13 +10,16 @@ use Rattle.commands.specs.declared.Request.{Request}
 use Rattle.commands.specs.declared.Request.the-variants as request
 use Rattle.commands.specs.declared.Shown.{Shown}
 use Rattle.commands.specs.declared.rows.Row.{Row}
-use Rattle.commands.specs.declared.rows.Row.the-variants.{Tails, Heads, Weights, X, Y}
-use Rattle.replies.specs.Replies.{okLine, helpLine}
+use Rattle.commands.specs.declared.rows.Row.the-variants.{Tails, Heads, Weights, X, Y, Text}
+use Rattle.commands.specs.declared.verbs.Format.{Format}
+use Rattle.replies.specs.Replies.{okLine, helpLine, writtenLine}
 use Rattle.replies.specs.Showing.{showLine}
 use Rattle.calls.specs.Calls.{Given, Makes}
 use Rattle.calls.specs.Texts.{ReadsGraph, ReadsPlaces}
+use Rattle.calls.specs.Writing.{TextWrites, Saves}
 use Rattle.calls.specs.declared.Sizes.{Sizes}
-use Rattle.requests.specs.Desk.{Desk, row, put, withSizes, lentRows, givenBack}
+use Rattle.writing.specs.declared.WriteReply.{WriteReply}
+use Rattle.requests.specs.Desk.{Desk, row, arcRows, put, withSizes, lentRows, givenBack}
 
 -- a request's reply, and the desk that it leaves; a file that is asked for holds `held`
 pub data Meets (held : Held) (d : Desk) : Request → List ℕ → Desk → Type 0 where
@@ -30,6 +34,9 @@ pub data Meets (held : Held) (d : Desk) : Request → List ℕ → Desk → Type
       → ReadsPlaces held (d .sizes .n) (row X d) (row Y d) reply x y
       → Meets held d request.ReadCo reply (put Y y (put X x d))
   called : {c : Call} {reply : List ℕ} {left : Given} → Makes (d .sizes) (lentRows d) c reply left → Meets held d (request.Call c) reply (givenBack left d)
+  written : {format : Format} {r : WriteReply} {text : List ℕ}
+      → TextWrites format (d .sizes) (arcRows d) (row X d) (row Y d) (row Text d) r text
+      → Meets held d (request.Write format) (writtenLine r) (put Text text d)
   help : Meets held d request.Help helpLine d
 
 -- a request that asks for no file: all but `gr` and `co`
@@ -40,6 +47,7 @@ AsksNoFile (request.Show r shown) = Unit
 AsksNoFile request.ReadGr = ⊥
 AsksNoFile request.ReadCo = ⊥
 AsksNoFile (request.Call c) = Unit
+AsksNoFile (request.Write format) = Unit
 AsksNoFile request.Help = Unit
 
 -- a request is met, where a file that it asks for holds `held`, and its reply stands on the page up to the place `end`
@@ -49,3 +57,7 @@ Met held before asks after page end page′ = Printed (λ reply. Meets held befo
 -- a request is met, for some contents of a file that it asks for, and its reply stands on the page up to the place `end`
 abbrev pub Obeyed : Desk → Request → Desk → List ℕ → ℕ → List ℕ → Type 0
 Obeyed before asks after page end page′ = Replied (λ (held : Held) reply. Meets held before asks reply after) page end page′
+
+-- `save`: what `write` would put into the lent places of the row `text` goes to a file, which then holds `held`
+abbrev pub SavesDesk : Held → Desk → Format → List ℕ → Type 0
+SavesDesk held d format reply = Saves held format (d .sizes) (arcRows d) (row X d) (row Y d) (length (row Text d)) reply

@@ -1,6 +1,7 @@
 // What the console does: a request is met with just the places that are lent, and its reply is put on a page.
 pub mod copies;
 pub mod texts;
+pub mod written;
 
 ghost use Prim.Native.Nat.{_≤_};
 ghost use lib.ListN.{length};
@@ -11,6 +12,7 @@ ghost use Rattle.requests.specs.Requests.{Met, Obeyed};
 use crate::copies::call_on;
 use crate::texts::graph;
 use crate::texts::places;
+use crate::written::write_row;
 use calls::Done;
 use calls::Sizes;
 use commands::Request;
@@ -68,6 +70,12 @@ fn meet(
         Request::Call(call) => {
             let end = call_on(page, call, sizes, lent, counts, numbers, bytes);
             return Done { sizes, end };
+        }
+        Request::Write(format) => {
+            return Done {
+                sizes,
+                end: write_row(page, format, sizes, lent, counts, numbers, bytes),
+            };
         }
         Request::Help => {
             return Done {

@@ -1,11 +1,11 @@
 -- Laws of one field of a line, and of how its number is held.
-use mathlib.Core.Path.{_≡_, refl, ap, _∙_}
+use mathlib.Core.Path.{_≡_, refl, ap}
 use mathlib.Core.List.{List}
 use mathlib.Core.Bool.{Bool, true, false, cond, _&&_}
 use Prim.Native.Nat.{ℕ, zero, suc, _≤_, _<_, min}
 use native.Mathlib.Omega.{arith}
 use lib.Dec.{leb}
-use lib.IntN.{ℤ, pos, negsuc, negℤ, _-ℤ_, +ℤ-idl}
+use lib.IntN.{pos, negsuc, negℤ, _-ℤ_, +ℤ-idl}
 use lib.ListN.{getD}
 use mir.Syntax.{w32}
 use mir.Val.{SFits, toZ}
@@ -20,7 +20,6 @@ use Rattle.scan.specs.declared.numbers.Natural.the-variants.{Number, NoN
 use Rattle.scan.specs.declared.numbers.Integer.{Integer}
 use Rattle.scan.specs.declared.numbers.Integer.the-variants.{Plain, Minus, NoInteger}
 use Rattle.scan.specs.declared.holding.Value.the-variants.{Word, Unsigned, Signed}
-use Rattle.scan.specs.declared.fields.Field.{Field}
 use Rattle.scan.specs.declared.fields.Field.the-variants.{Taken, NotTaken}
 
 -- ---- a number as a line holds it

@@ -4,3 +4,5 @@ mod MatchingLaws
 pub mod NumberLaws
 pub mod PieceLaws
 pub mod DecimalLaws
+pub mod WrittenLaws
+pub mod FormLaws

@@ -5,3 +5,4 @@ pub mod Fields
 pub mod Line
 pub mod Held
 pub mod Decimal
+pub mod Written

@@ -2,7 +2,7 @@
 use Prim.Native.Nat.{ℕ}
 use Prim.Native.Char.{code}
 use mathlib.Core.List.{List, [], _∷_}
-use mathlib.Core.Bool.{cond}
+use mathlib.Core.Bool.{Bool, cond}
 use lib.Dec.{eqb}
 use lib.ListN.{length}
 use Rattle.scan.specs.Pieces.{fieldsOf, firstField, sameBytes}
@@ -26,11 +26,15 @@ dataLine (Unread f) = Faulty f
 abbrev pub faulty : Kind → Line
 faulty kind = Faulty (record { kind = kind; column = 1 })
 
+-- a comment is a line whose first field is `c`
+abbrev pub isComment : List ℕ → Bool
+isComment s = sameBytes (firstField s) (code "c" ∷ [])
+
 -- the line s of a format whose problem line has the form `problem` and whose data lines have the form `rows`
 unfoldable pub lineOf : List ℕ → List ℕ → List ℕ → Line
 lineOf problem rows s =
     cond (eqb (length s) 0) (faulty EmptyLine)
-    (cond (sameBytes (firstField s) (code "c" ∷ [])) Comment
+    (cond (isComment s) Comment
     (cond (sameBytes (firstField s) (firstField problem)) (problemLine (matched (fieldsOf problem) 1 (fieldsOf s)))
     (cond (sameBytes (firstField s) (firstField rows)) (dataLine (matched (fieldsOf rows) 1 (fieldsOf s)))
     (faulty NoLetter))))

@@ -29,7 +29,11 @@ returns-6 c =
     (met-any tt (c .before .before .before .before .before .before .before .before .before .request4 .given .1) (c .before .before .before .call-on .ensures .0), omega arith)
 
 returns-7 : tie.Need-returns-7
-returns-7 c = (met (c .before .before .enum-told3 .given .1) Meets.help (c .put-help .ensures .0), omega arith)
+returns-7 c =
+    (met-any tt (c .before .before .before .before .before .before .before .before .request5 .given .1) (c .before .before .write-row .ensures .0), omega arith)
+
+returns-8 : tie.Need-returns-8
+returns-8 c = (met (c .before .before .enum-told3 .given .1) Meets.help (c .put-help .ensures .0), omega arith)
 
 pub meet-spec : {M : Type 1} → statement M
 meet-spec =
@@ -47,5 +51,7 @@ meet-spec =
     returns-5
     (λ c. search needs) (λ c κs. search needs) (λ c. search needs) (λ c. search needs) (λ c. search needs)
     returns-6
+    (λ c. search needs) (λ c κs. search needs) (λ c. search needs) (λ c. search needs) (λ c. search needs)
+    returns-7
     (λ c. search needs) (λ c κs. search needs)
-    returns-7)
+    returns-8)

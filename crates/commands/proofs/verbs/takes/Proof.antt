@@ -37,10 +37,16 @@ returns-11 : tie.Need-returns-11
 returns-11 c = rw (c .enum-told11 .given .1)
 
 returns-12 : tie.Need-returns-12
-returns-12 c = rw (c .enum-told12 .given .1)
+returns-12 c = rw (c .before .verb .given .1)
 
 returns-13 : tie.Need-returns-13
-returns-13 c = rw (c .enum-told13 .given .1)
+returns-13 c = rw (c .before .verb2 .given .1)
+
+returns-14 : tie.Need-returns-14
+returns-14 c = rw (c .enum-told12 .given .1)
+
+returns-15 : tie.Need-returns-15
+returns-15 c = rw (c .enum-told13 .given .1)
 
 pub takes-spec : {M : Type 1} → statement M
 takes-spec =
@@ -48,7 +54,7 @@ takes-spec =
     (tie.spec
     (λ c. search needs) (λ c. search needs) (λ c. search needs) (λ c. search needs) (λ c. search needs) (λ c. search needs)
     (λ c. search needs) (λ c. search needs) (λ c. search needs) (λ c. search needs) (λ c. search needs) (λ c. search needs)
-    (λ c. search needs) (λ c. search needs)
+    (λ c. search needs) (λ c. search needs) (λ c. search needs) (λ c. search needs)
     returns
     returns-2
     returns-3
@@ -62,4 +68,6 @@ takes-spec =
     returns-11
     returns-12
     returns-13
+    returns-14
+    returns-15
     (λ c. search needs))

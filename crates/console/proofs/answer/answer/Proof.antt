@@ -1,7 +1,7 @@
 -- `console::answer::answer` meets its contract.
 use native.Mathlib.Omega.{arith}
 use Rattle.console.specs.Answers.{Answers, Answered}
-use Rattle.console.proofs.AnswerLaws.{lends-as, fresh-as, answered-as, answered-by, obeyed-as}
+use Rattle.console.proofs.AnswerLaws.{lends-as, fresh-as, answered-as, answered-by, obeyed-as, saved-as}
 use Rattle.console.proofs.HeardLaws.{lend-heard}
 use borrow.Author.Needs.{needs}
 use Rattle.console.proofs.answer.answer.Statement.{statement}
@@ -12,40 +12,27 @@ returns c = (Answered.over (c .if1 .taken), search needs)
 
 returns-2 : tie.Need-returns-2
 returns-2 c =
-    let d = c .before .before .before in
-    let h = d .before .before in
-    (answered-by (h .before .before .if1 .left) (h .before .asked .ensures) (h .heard .ensures) (d .command .given .1) Answers.faulty (c .put-fault .ensures .0), omega arith)
+    (answered-by (c .before .before .before .before .before .before .before .if1 .left) (c .before .before .before .before .before .before .asked .ensures) (c .before .before .before .before .before .heard .ensures) (c .before .before .before .command .given .1) Answers.faulty (c .put-fault .ensures .0), omega arith)
 
 lend-requires : tie.Need-lend-requires
 lend-requires c κs =
-    let d = c .before .before .before .before in
-    let h = d .before .before in
-    let s = h .before .before .before .before .before .before .before .before in
-    let a = s .args in
-    (lend-heard (a .line .now) _ (a .length) _ _ (h .before .asked .ensures) (h .heard .ensures) (d .command2 .given .1), s .pre)
+    (lend-heard (c .before .before .before .before .before .before .before .before .before .before .before .before .before .before .args .line .now) _ (c .before .before .before .before .before .before .before .before .before .before .before .before .before .before .args .length) _ _ (c .before .before .before .before .before .before .before .asked .ensures) (c .before .before .before .before .before .before .heard .ensures) (c .before .before .before .before .command2 .given .1), c .before .before .before .before .before .before .before .before .before .before .before .before .before .before .pre)
 
 returns-3 : tie.Need-returns-3
 returns-3 c =
-    let l = c .before .before .before .before .before .before .before in
-    let d = l .before .before .before .before .before in
-    let h = d .before .before in
-    (answered-by (h .before .before .if1 .left) (h .before .asked .ensures) (h .heard .ensures) (d .command2 .given .1) (lends-as (l .lend .ensures)) (c .put-ok .ensures .0), omega arith)
+    (answered-by (c .before .before .before .before .before .before .before .before .before .before .before .before .before .before .before .before .if1 .left) (c .before .before .before .before .before .before .before .before .before .before .before .before .before .before .before .asked .ensures) (c .before .before .before .before .before .before .before .before .before .before .before .before .before .before .heard .ensures) (c .before .before .before .before .before .before .before .before .before .before .before .before .command2 .given .1) (lends-as (c .before .before .before .before .before .before .before .lend .ensures)) (c .put-ok .ensures .0), omega arith)
 
 returns-4 : tie.Need-returns-4
 returns-4 c =
-    let s = c .before .before .before .before in
-    let l = s .before .before .before .before .before .before in
-    let d = l .before .before .before .before in
-    let h = d .before .before in
-    let says = fresh-as (l .clear-rows .ensures) (s .start .ensures) in
-    (answered-by (h .before .before .if1 .left) (h .before .asked .ensures) (h .heard .ensures) (d .enum-told .given .1) says (c .put-ok2 .ensures .0), omega arith)
+    (answered-by (c .before .before .before .before .before .before .before .before .before .before .before .before .before .before .before .before .before .before .if1 .left) (c .before .before .before .before .before .before .before .before .before .before .before .before .before .before .before .before .before .asked .ensures) (c .before .before .before .before .before .before .before .before .before .before .before .before .before .before .before .before .heard .ensures) (c .before .before .before .before .before .before .before .before .before .before .before .before .before .before .enum-told .given .1) (fresh-as (c .before .before .before .before .before .before .before .before .before .before .clear-rows .ensures) (c .before .before .before .before .start .ensures)) (c .put-ok2 .ensures .0), omega arith)
 
 returns-5 : tie.Need-returns-5
 returns-5 c =
-    let o = c .before .before .before .before .before .before in
-    let d = o .before .before .before .before .before .before in
-    let h = d .before .before in
-    (answered-as (h .before .before .if1 .left) (h .before .asked .ensures) (h .heard .ensures) (d .command3 .given .1) (obeyed-as (o .obey .ensures .0)), omega arith)
+    (answered-as (c .before .before .before .before .before .before .before .before .before .before .if1 .left) (c .before .before .before .before .before .before .before .before .before .asked .ensures) (c .before .before .before .before .before .before .before .before .heard .ensures) (c .before .before .before .before .before .before .command3 .given .1) (saved-as (c .save .ensures .0)), omega arith)
+
+returns-6 : tie.Need-returns-6
+returns-6 c =
+    (answered-as (c .before .before .before .before .before .before .before .before .before .before .before .before .before .before .before .before .if1 .left) (c .before .before .before .before .before .before .before .before .before .before .before .before .before .before .before .asked .ensures) (c .before .before .before .before .before .before .before .before .before .before .before .before .before .before .heard .ensures) (c .before .before .before .before .before .before .before .before .before .before .before .before .command4 .given .1) (obeyed-as (c .before .before .before .before .before .before .obey .ensures .0)), omega arith)
 
 pub answer-spec : {M : Type 1} → statement M
 answer-spec =
@@ -62,4 +49,6 @@ answer-spec =
     (λ c. search needs) (λ c. search needs)
     returns-4
     (λ c. search needs) (λ c κs. search needs) (λ c. search needs) (λ c. search needs) (λ c. search needs)
-    returns-5)
+    returns-5
+    (λ c. search needs) (λ c κs. search needs) (λ c. search needs) (λ c. search needs) (λ c. search needs)
+    returns-6)

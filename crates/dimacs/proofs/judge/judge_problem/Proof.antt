@@ -1,7 +1,5 @@
 -- `dimacs::judge::judge_problem` meets its contract.
-use mathlib.Core.Path.{_≡_, sym, _∙_}
-use mathlib.Core.Bool.{_&&_}
-use lib.Dec.{leb}
+use mathlib.Core.Path.{sym, _∙_}
 use borrow.Author.Tests.{not-true, not-false}
 use Rattle.dimacs.specs.Judgement.{problemJudged}
 use borrow.Author.Needs.{needs}

@@ -1,0 +1,9 @@
+pub mod LengthLaws
+pub mod GrTrip
+pub mod CoTrip
+pub mod PutLaws
+pub mod LinesLaws
+pub mod WriteLaws
+pub mod Unique
+pub mod Rewritten
+pub mod RoundTrip
