@@ -1,7 +1,6 @@
 // A row that a request writes is copied for it, and what it leaves is put back.
 ghost use Prim.Native.Nat.{_≤_};
 ghost use mathlib.Core.Path.{_≡_};
-ghost use lib.ListN.{length};
 ghost use Rattle.files.specs.File.{unread};
 ghost use Rattle.commands.specs.Rows.{stretchOf};
 ghost use Rattle.commands.specs.declared.rows.Row.the-variants.{Weights, Boxes, Route};

@@ -13,7 +13,7 @@ use Rattle.commands.specs.declared.Request.{Request}
 use Rattle.commands.specs.declared.Request.the-variants as request
 use Rattle.commands.specs.declared.rows.Row.the-variants.{Tails, Heads, Weights, X, Y, Boxes, Route}
 use Rattle.lending.specs.Stores.{putAt}
-use Rattle.calls.specs.Calls.{given, withWeights, withBoxes, withRoute, Makes}
+use Rattle.calls.specs.Calls.{given, Makes}
 use Rattle.calls.specs.Texts.{ReadsGraph, ReadsPlaces}
 use Rattle.calls.specs.declared.Sizes.{Sizes}
 use Rattle.desk.specs.Desk.{Desk, desk, row, givenBack}

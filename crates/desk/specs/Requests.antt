@@ -21,6 +21,10 @@ use Rattle.calls.specs.declared.Sizes.{Sizes}
 use Rattle.writing.specs.declared.WriteReply.{WriteReply}
 use Rattle.desk.specs.Desk.{Desk, row, arcRows, put, withSizes, lentRows, givenBack}
 
+-- a text of the desk's rows is written into another row, which held `old` and then holds `new`
+abbrev pub DeskWrites : Desk → Format → List ℕ → WriteReply → List ℕ → Type 0
+DeskWrites d format old r new = TextWrites format (d .sizes) (arcRows d) (row X d) (row Y d) old r new
+
 -- a request's reply, and the desk that it leaves; a file that is asked for holds `held`
 pub data Meets (held : Held) (d : Desk) : Request → List ℕ → Desk → Type 0 where
   set-n : {v : ℕ} → Meets held d (request.SetN v) okLine (withSizes d (record { n = v; m = d .sizes .m }))
@@ -35,8 +39,7 @@ pub data Meets (held : Held) (d : Desk) : Request → List ℕ → Desk → Type
       → Meets held d request.ReadCo reply (put Y y (put X x d))
   called : {c : Call} {reply : List ℕ} {left : Given} → Makes (d .sizes) (lentRows d) c reply left → Meets held d (request.Call c) reply (givenBack left d)
   written : {format : Format} {r : WriteReply} {text : List ℕ}
-      → TextWrites format (d .sizes) (arcRows d) (row X d) (row Y d) (row Text d) r text
-      → Meets held d (request.Write format) (writtenLine r) (put Text text d)
+      → DeskWrites d format (row Text d) r text → Meets held d (request.Write format) (writtenLine r) (put Text text d)
   help : Meets held d request.Help helpLine d
 
 -- a request that asks for no file: all but `gr` and `co`

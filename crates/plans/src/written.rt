@@ -1,6 +1,7 @@
 // `write` and `save`: a text of the lent rows.
 ghost use Prim.Native.Nat.{_≤_};
 ghost use mathlib.Core.Path.{_≡_};
+ghost use mathlib.Core.List.{[]};
 ghost use lib.ListN.{length};
 ghost use Rattle.files.specs.File.{Held, unread};
 ghost use Rattle.pages.specs.Page.{Replied};
@@ -9,7 +10,7 @@ ghost use Rattle.commands.specs.declared.Request.the-variants as request;
 ghost use Rattle.commands.specs.declared.rows.Row.the-variants.{Text};
 ghost use Rattle.lending.specs.Stores.{stores, Full, partAt};
 ghost use Rattle.desk.specs.Desk.{desk};
-ghost use Rattle.desk.specs.Requests.{Met, SavesDesk};
+ghost use Rattle.desk.specs.Requests.{DeskWrites, Met, SavesDesk};
 use calls::Sizes;
 use calls::written::write_text;
 use commands::rows::Row;
@@ -24,6 +25,26 @@ use replies::answers::put_written;
 use replies::words::put_unsaved;
 use saving::save_file;
 use writing::WriteReply;
+
+// Writes the text of the lent rows into another row; whatever the bytes are.
+fn write_rows(
+    format: Format,
+    sizes: Sizes,
+    lent: Lent,
+    counts: &[u32],
+    numbers: &[i32],
+    text: &mut [u8],
+) -> WriteReply
+    requires { ⌜ (length (now counts) ≡ 32768) × (length (now numbers) ≡ 40960) ⌝ }
+    ensures { λ r. let d = desk sizes lent (now (counts .entry)) (now (numbers .entry)) [] in ⌜ DeskWrites d format (now (text .entry)) r (now (text .exit)) ⌝ }
+{
+    let tails = counts_of(counts, lent, Row::Tails);
+    let heads = counts_of(counts, lent, Row::Heads);
+    let weights = counts_of(counts, lent, Row::Weights);
+    let x = numbers_of(numbers, lent, Row::X);
+    let y = numbers_of(numbers, lent, Row::Y);
+    write_text(format, sizes, tails, heads, weights, x, y, text)
+}
 
 // `write`: the text goes into the lent places of the row `text`.
 pub fn write_row(
@@ -42,12 +63,7 @@ pub fn write_row(
     let s = Row::Text.stretch();
     let a = s.start;
     let e = a + lent_at(lent, s);
-    let tails = counts_of(counts, lent, Row::Tails);
-    let heads = counts_of(counts, lent, Row::Heads);
-    let weights = counts_of(counts, lent, Row::Weights);
-    let x = numbers_of(numbers, lent, Row::X);
-    let y = numbers_of(numbers, lent, Row::Y);
-    let reply = write_text(format, sizes, tails, heads, weights, x, y, &mut bytes[a..e]);
+    let reply = write_rows(format, sizes, lent, counts, numbers, &mut bytes[a..e]);
     put_written(page, reply)
 }
 
@@ -67,12 +83,7 @@ fn save_by(
     ensures { λ r. let d = desk sizes lent (now (counts .entry)) (now (numbers .entry)) (now (bytes .entry)) in ⌜ Replied (λ (held : Held) reply. SavesDesk held d format reply) (now (page .entry)) r (now (page .exit)) ⌝ }
     ensures { λ r. ⌜ r ≤ 1000 ⌝ }
 {
-    let tails = counts_of(counts, lent, Row::Tails);
-    let heads = counts_of(counts, lent, Row::Heads);
-    let weights = counts_of(counts, lent, Row::Weights);
-    let x = numbers_of(numbers, lent, Row::X);
-    let y = numbers_of(numbers, lent, Row::Y);
-    let reply = write_text(format, sizes, tails, heads, weights, x, y, text);
+    let reply = write_rows(format, sizes, lent, counts, numbers, text);
     let WriteReply::Written(k) = reply else {
         return put_written(page, reply);
     };

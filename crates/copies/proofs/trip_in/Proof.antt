@@ -2,7 +2,7 @@
 use mathlib.Core.Path.{refl}
 use native.Mathlib.Omega.{arith}
 use Rattle.commands.specs.declared.rows.Row.the-variants.{Route}
-use Rattle.lending.proofs.PartLaws.{part-few}
+use Rattle.lending.proofs.PartLaws.{part-few, part-fits}
 use Rattle.desk.specs.Desk.{desk}
 use Rattle.desk.proofs.RequestLaws.{travelled-as}
 use borrow.Author.Needs.{needs}
@@ -11,25 +11,17 @@ use Rattle.copies.proofs.trip_in.Tie as tie
 
 make-trip-requires : tie.Need-make-trip-requires
 make-trip-requires c κs =
-    let few = part-few (c .before .before .before .before .before .before .before .before .before .before .before .before .args .lent) Route (c .before .before .before .before .before .before .before .before .before .before .before .before .args .counts .now) (c .before .before .before .before .before .before .before .before .before .before .before .before .args .route .now) (c .before .before .before .before .before .before .before .before .before .before .before .before .pre .1) in
-    omega (arith, few)
+    let few = part-few (c .before .before .before .before .before .before .before .before .before .before .before .before .args .lent) Route (c .before .before .before .before .before .before .before .before .before .before .before .before .args .counts .now) (c .before .before .before .before .before .before .before .before .before .before .before .before .args .route .now) (c .before .before .before .before .before .before .before .before .before .before .before .before .pre .1) in omega (arith, few)
 
 give-counts-requires : tie.Need-give-counts-requires
 give-counts-requires c κs =
-    let few = part-few (c .before .before .before .before .before .before .before .before .before .before .before .before .before .before .before .before .before .args .lent) Route (c .before .before .before .before .before .before .before .before .before .before .before .before .before .before .before .before .before .args .counts .now) (c .before .before .before .before .before .before .before .before .before .before .before .before .before .before .before .before .before .args .route .now) (c .before .before .before .before .before .before .before .before .before .before .before .before .before .before .before .before .before .pre .1) in
-    (refl, c .before .before .before .before .before .before .before .before .before .before .before .before .before .before .before .before .before .pre .0 .counts, omega (arith, few, c .before .before .before .route .given))
+    (refl, c .before .before .before .before .before .before .before .before .before .before .before .before .before .before .before .before .before .pre .0 .counts, part-fits _ Route _ _ (c .before .before .before .before .before .before .before .before .before .before .before .before .before .before .before .before .before .pre .1) (c .before .before .before .route .given))
 
 returns : tie.Need-returns
 returns c =
-    let d = desk (c .before .before .before .before .before .before .before .before .before .before .before .before .before .before .before .before .before .before .before .before .args .sizes) (c .before .before .before .before .before .before .before .before .before .before .before .before .before .before .before .before .before .before .before .before .args .lent) (c .before .before .before .before .before .before .before .before .before .before .before .before .before .before .before .before .before .before .before .before .args .counts .now) (c .before .before .before .before .before .before .before .before .before .before .before .before .before .before .before .before .before .before .before .before .args .numbers .now) (c .before .before .before .before .before .before .before .before .before .before .before .before .before .before .before .before .before .before .before .before .args .bytes .now) in
-    let tails = c .before .before .before .before .before .before .before .before .before .before .before .before .before .before .before .counts-of .ensures in
-    let heads = c .before .before .before .before .before .before .before .before .before .before .before .before .before .before .counts-of2 .ensures in
-    let weights = c .before .before .before .before .before .before .before .before .before .before .before .before .before .counts-of3 .ensures in
-    let x = c .before .before .before .before .before .before .before .before .before .before .before .before .numbers-of .ensures in
-    let y = c .before .before .before .before .before .before .before .before .before .before .before .numbers-of2 .ensures in
-    let boxes = c .before .before .before .before .before .before .before .before .before .before .numbers-of3 .ensures in
+    let a = c .before .before .before .before .before .before .before .before .before .before .before .before .before .before .before .before .before .before .before .before .args in let d = desk (a .sizes) (a .lent) (a .counts .now) (a .numbers .now) (a .bytes .now) in
     let made = c .before .before .before .before .before .before .before .make-trip .ensures in
-    (travelled-as d tails heads weights x y boxes (c .before .before .before .before .before .before .before .before .before .before .before .before .before .before .before .before .before .before .before .before .pre .1) (made .0) (c .before .before .give-counts .ensures), made .1)
+    (travelled-as d (c .before .before .before .before .before .before .before .before .before .before .before .before .before .before .before .counts-of .ensures) (c .before .before .before .before .before .before .before .before .before .before .before .before .before .before .counts-of2 .ensures) (c .before .before .before .before .before .before .before .before .before .before .before .before .before .counts-of3 .ensures) (c .before .before .before .before .before .before .before .before .before .before .before .before .numbers-of .ensures) (c .before .before .before .before .before .before .before .before .before .before .before .numbers-of2 .ensures) (c .before .before .before .before .before .before .before .before .before .before .numbers-of3 .ensures) (c .before .before .before .before .before .before .before .before .before .before .before .before .before .before .before .before .before .before .before .before .pre .1) (made .0) (c .before .before .give-counts .ensures), made .1)
 
 pub trip-in-spec : {M : Type 1} → statement M
 trip-in-spec =

@@ -1,9 +1,5 @@
 -- `copies::work_on` meets its contract.
-use Prim.Native.Nat.{ℕ}
 use mathlib.Core.Path.{sym}
-use native.Mathlib.Omega.{arith}
-use lib.IntN.{ℤ, pos}
-use lib.ListN.{length-replicate}
 use lib.Seq.{length-take-le}
 use borrow.Author.Needs.{needs}
 use Rattle.copies.proofs.work_on.Statement.{statement}
@@ -11,13 +7,15 @@ use Rattle.copies.proofs.work_on.Tie as tie
 
 slice-aggregate-work-in : tie.Need-slice-aggregate-work-in
 slice-aggregate-work-in c =
-    let n = length-replicate {A = ℕ} 4096 0 in
-    sym (length-take-le _ _ (omega (arith, n, c .before .before .before .before .before .before .before .before .before .fetch-counts .ensures .0, c .before .before .before .before .before .before .before .before .weights2 .given)))
+    sym (length-take-le _ _ (c .before .before .before .before .before .before .before .before .before .fetch-counts .ensures .0))
 
 slice-aggregate-work-in-2 : tie.Need-slice-aggregate-work-in-2
 slice-aggregate-work-in-2 c =
-    let n = length-replicate {A = ℤ} 16384 (pos 0) in
-    sym (length-take-le _ _ (omega (arith, n, c .before .before .before .before .before .before .fetch-numbers .ensures .0, c .before .before .before .before .before .boxes2 .given)))
+    sym (length-take-le _ _ (c .before .before .before .before .before .before .fetch-numbers .ensures .0))
+
+work-in-requires : tie.Need-work-in-requires
+work-in-requires c κs =
+    (c .before .before .before .before .before .before .before .before .before .before .before .before .before .before .before .pre, c .before .before .before .before .before .before .before .before .before .before .fetch-counts .ensures .1, c .before .before .before .before .before .before .fetch-numbers .ensures .1)
 
 pub work-on-spec : {M : Type 1} → statement M
 work-on-spec =
@@ -27,4 +25,5 @@ work-on-spec =
     slice-aggregate-work-in
     (λ c. search needs)
     slice-aggregate-work-in-2
-    (λ c κs. search needs) (λ c. search needs) (λ c. search needs) (λ c. search needs))
+    work-in-requires
+    (λ c. search needs) (λ c. search needs) (λ c. search needs))

@@ -1,8 +1,5 @@
 -- `plans::reading::graph` meets its contract.
-use Prim.Native.Nat.{ℕ}
 use mathlib.Core.Path.{sym}
-use native.Mathlib.Omega.{arith}
-use lib.ListN.{length-replicate}
 use lib.Seq.{length-take-le}
 use borrow.Author.Needs.{needs}
 use Rattle.plans.proofs.reading.graph.Statement.{statement}
@@ -10,22 +7,19 @@ use Rattle.plans.proofs.reading.graph.Tie as tie
 
 slice-aggregate-graph-in : tie.Need-slice-aggregate-graph-in
 slice-aggregate-graph-in c =
-    let n = length-replicate {A = ℕ} 4096 0 in
-    sym (length-take-le _ _ (omega (arith, n, c .before .before .before .before .before .before .before .before .before .before .before .before .fetch-counts .ensures .0, c .before .before .before .before .before .before .before .before .before .before .before .tails2 .given)))
+    sym (length-take-le _ _ (c .before .before .before .before .before .before .before .before .before .before .before .before .fetch-counts .ensures .0))
 
 slice-aggregate-graph-in-2 : tie.Need-slice-aggregate-graph-in-2
 slice-aggregate-graph-in-2 c =
-    let n = length-replicate {A = ℕ} 4096 0 in
-    sym (length-take-le _ _ (omega (arith, n, c .before .before .before .before .before .before .before .before .before .fetch-counts2 .ensures .0, c .before .before .before .before .before .before .before .before .heads2 .given)))
+    sym (length-take-le _ _ (c .before .before .before .before .before .before .before .before .before .fetch-counts2 .ensures .0))
 
 slice-aggregate-graph-in-3 : tie.Need-slice-aggregate-graph-in-3
 slice-aggregate-graph-in-3 c =
-    let n = length-replicate {A = ℕ} 4096 0 in
-    sym (length-take-le _ _ (omega (arith, n, c .before .before .before .before .before .before .fetch-counts3 .ensures .0, c .before .before .before .before .before .weights2 .given)))
+    sym (length-take-le _ _ (c .before .before .before .before .before .before .fetch-counts3 .ensures .0))
 
 graph-in-requires : tie.Need-graph-in-requires
 graph-in-requires c κs =
-    (c .before .before .before .before .before .before .before .before .before .before .before .before .before .before .before .before .before .before .before .before .pre .0, search needs, search needs, search needs, c .before .before .before .before .before .before .before .before .before .before .before .before .before .before .before .before .before .before .before .before .pre .1)
+    (c .before .before .before .before .before .before .before .before .before .before .before .before .before .before .before .before .before .before .before .before .pre .0, c .before .before .before .before .before .before .before .before .before .before .before .before .before .before .fetch-counts .ensures .1, c .before .before .before .before .before .before .before .before .before .before .fetch-counts2 .ensures .1, c .before .before .before .before .before .before .fetch-counts3 .ensures .1, c .before .before .before .before .before .before .before .before .before .before .before .before .before .before .before .before .before .before .before .before .pre .1)
 
 pub graph-spec : {M : Type 1} → statement M
 graph-spec =
