@@ -10,14 +10,12 @@ use Rattle.rules.specs.declared.Judged.the-variants.{Fine, Refused}
 use Rattle.rules.specs.declared.Refusal.{Refusal}
 use Rattle.scan.specs.Ascii.{bytes}
 use Rattle.walks.specs.Rows.{Rows, rows}
-use Rattle.pages.specs.Page.{Puts}
 use Rattle.files.specs.File.{Held, text, unread}
 use Rattle.wording.specs.Refusals.{placeLine}
 use Rattle.listing.specs.Listing.{listing}
 use Rattle.dimacs.specs.Texts.{Outcome, read, refused}
 use Rattle.dimacs.specs.Reading.{readGr}
 use Rattle.dimacs.specs.Promise.{GrPromise, CoPromise}
-use Rattle.dimacs.specs.declared.GrReply.{GrReply}
 use Rattle.dimacs.specs.declared.GrReply.the-variants as graph
 use Rattle.dimacs.specs.declared.CoReply.the-variants as places
 use Rattle.boxwork.specs.Says.{BuildSays}
@@ -30,11 +28,6 @@ unreadLine = bytes "refused 0 0\n"
 unfoldable pub builtText : ℕ → Rows → List ℤ → Judged → List ℕ
 builtText m R boxes Fine = listing (R .tails) (R .heads) (R .weights) boxes m
 builtText m R boxes (Refused r) = placeLine r
-
--- why a graph is refused
-abbrev pub PutsRefused : GrReply → List ℕ → ℕ → List ℕ → Type 0
-PutsRefused (graph.Refused why) page end page′ = Puts (placeLine why) 0 page end page′
-PutsRefused (graph.Read n m) page end page′ = record {}
 
 -- the rows that are lent hold zeros
 abbrev pub arcRow : List ℕ

@@ -5,7 +5,7 @@ ghost use lib.ListN.{length};
 ghost use Rattle.walks.specs.Rows.{rows};
 ghost use Rattle.pages.specs.Page.{Puts, Printed};
 ghost use Rattle.files.specs.File.{Within, heldIn};
-ghost use Rattle.boxes.specs.Prints.{isGraph, unreadLine, builtText, PutsRefused, PrintsPlaced, Prints};
+ghost use Rattle.boxes.specs.Prints.{isGraph, unreadLine, builtText, PrintsPlaced, Prints};
 use dimacs::CoReply;
 use dimacs::GrReply;
 use files::File;
@@ -78,17 +78,6 @@ fn list_with_places(
     put_place(page, 0, r)
 }
 
-// Why a graph is refused.
-fn put_graph_refused(page: &mut [u8; PAGE], reply: GrReply) -> usize
-    ensures { λ r. ⌜ PutsRefused reply (now (page .entry)) r (now (page .exit)) ⌝ }
-    ensures { λ r. ⌜ r ≤ 368640 ⌝ }
-{
-    let GrReply::Refused(why) = reply else {
-        return 0;
-    };
-    put_place(page, 0, why)
-}
-
 // What is printed, of what was read of the two files.
 fn list(page: &mut [u8; PAGE], gr: &[u8], graph: File, co: &[u8], places: File) -> usize
     requires { ⌜ Within (length (now gr)) graph × Within (length (now co)) places ⌝ }
@@ -102,10 +91,14 @@ fn list(page: &mut [u8; PAGE], gr: &[u8], graph: File, co: &[u8], places: File) 
     let mut heads = [0u32; 2048];
     let mut weights = [0u32; 2048];
     let reply = dimacs::read_gr(&gr[..k], &mut tails, &mut heads, &mut weights);
-    let GrReply::Read(n, m) = reply else {
-        return put_graph_refused(page, reply);
-    };
-    list_with_places(page, n, m, &tails, &heads, &weights, co, places)
+    match reply {
+        GrReply::Read(n, m) => {
+            return list_with_places(page, n, m, &tails, &heads, &weights, co, places);
+        }
+        GrReply::Refused(why) => {
+            return put_place(page, 0, why);
+        }
+    }
 }
 
 // Whether what was read of `net.gr` is a graph.

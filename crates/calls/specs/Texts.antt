@@ -3,7 +3,6 @@ use Prim.Native.Nat.{ℕ}
 use mathlib.Core.Path.{_≡_}
 use mathlib.Core.List.{List}
 use lib.IntN.{ℤ}
-use Rattle.pages.specs.Page.{Puts}
 use Rattle.files.specs.File.{Held, text, unread}
 use Rattle.wording.specs.Refusals.{refusalLine, noFileLine}
 use Rattle.dimacs.specs.Promise.{GrPromise, CoPromise}
@@ -23,11 +22,6 @@ graphLine (graph.Refused r) = refusalLine r
 unfoldable pub graphSizes : GrReply → Sizes → Sizes
 graphSizes (graph.Read n m) sizes = record { n = n; m = m }
 graphSizes (graph.Refused r) sizes = sizes
-
--- why a graph file was refused
-abbrev pub PutsRefused : GrReply → List ℕ → ℕ → List ℕ → Type 0
-PutsRefused (graph.Refused why) page end page′ = Puts (refusalLine why) 0 page end page′
-PutsRefused (graph.Read n m) page end page′ = record {}
 
 unfoldable pub placesLine : CoReply → List ℕ
 placesLine places.Read = okLine

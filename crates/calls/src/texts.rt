@@ -3,7 +3,7 @@ ghost use Prim.Native.Nat.{_≤_};
 ghost use lib.ListN.{length};
 ghost use Rattle.files.specs.File.{Within, heldIn};
 ghost use Rattle.pages.specs.Page.{Printed};
-ghost use Rattle.calls.specs.Texts.{PutsRefused, ReadsGraph, ReadsPlaces};
+ghost use Rattle.calls.specs.Texts.{ReadsGraph, ReadsPlaces};
 use crate::Done;
 use crate::Sizes;
 use dimacs::CoReply;
@@ -14,17 +14,6 @@ use replies::answers::put_sizes;
 use replies::words::put_ok;
 use wording::put_no_file;
 use wording::put_refusal;
-
-// Why a graph is refused.
-fn put_graph_refused(page: &mut [u8; PAGE], reply: GrReply) -> usize
-    ensures { λ r. ⌜ PutsRefused reply (now (page .entry)) r (now (page .exit)) ⌝ }
-    ensures { λ r. ⌜ r ≤ 1000 ⌝ }
-{
-    let GrReply::Refused(why) = reply else {
-        return 0;
-    };
-    put_refusal(page, why)
-}
 
 // `gr`: n and m become the file's.
 pub fn read_graph(
@@ -47,15 +36,19 @@ pub fn read_graph(
         };
     };
     let reply = dimacs::read_gr(&text[..k], tails, heads, weights);
-    let GrReply::Read(n, m) = reply else {
-        return Done {
-            sizes,
-            end: put_graph_refused(page, reply),
-        };
-    };
-    Done {
-        sizes: Sizes { n, m },
-        end: put_sizes(page, n, m),
+    match reply {
+        GrReply::Read(n, m) => {
+            return Done {
+                sizes: Sizes { n, m },
+                end: put_sizes(page, n, m),
+            };
+        }
+        GrReply::Refused(why) => {
+            return Done {
+                sizes,
+                end: put_refusal(page, why),
+            };
+        }
     }
 }
 

@@ -16,8 +16,8 @@ use Rattle.lending.specs.Stores.{Stores, cleared, lentIn}
 use Rattle.lending.specs.Lending.{storedIn}
 use Rattle.lending.specs.declared.rows.Lent.{Lent}
 use Rattle.replies.specs.Replies.{okLine}
-use Rattle.requests.specs.Desk.{Desk}
-use Rattle.requests.specs.Requests.{Obeyed, SavesDesk}
+use Rattle.desk.specs.Desk.{Desk}
+use Rattle.desk.specs.Requests.{Obeyed, SavesDesk}
 use Rattle.console.specs.Input.{askedBy}
 use Rattle.console.specs.State.{fresh}
 use Rattle.console.specs.Answers.{Answers, Answered, isOver}

@@ -7,9 +7,9 @@ use lib.ListN.{length}
 use Rattle.files.specs.File.{Held}
 use Rattle.pages.specs.Page.{written}
 use Rattle.commands.specs.declared.Command.{Command}
-use Rattle.requests.specs.Desk.{Desk}
+use Rattle.desk.specs.Desk.{Desk}
 use Rattle.calls.proofs.WritingLaws.{saves-unique}
-use Rattle.requests.proofs.Unique.{meets-unique, meets-any}
+use Rattle.desk.proofs.Unique.{meets-unique, meets-any}
 use Rattle.console.specs.Input.{askedBy}
 use Rattle.console.specs.Answers.{Answers, Answered, NamesNoFile}
 

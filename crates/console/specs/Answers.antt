@@ -17,8 +17,8 @@ use Rattle.commands.specs.declared.verbs.Format.{Format}
 use Rattle.lending.specs.Stores.{cleared, allLent, lentIn}
 use Rattle.lending.specs.Lending.{storedIn}
 use Rattle.replies.specs.Replies.{okLine, faultLine}
-use Rattle.requests.specs.Desk.{Desk}
-use Rattle.requests.specs.Requests.{AsksNoFile, Meets, SavesDesk}
+use Rattle.desk.specs.Desk.{Desk}
+use Rattle.desk.specs.Requests.{AsksNoFile, Meets, SavesDesk}
 use Rattle.console.specs.Input.{askedBy}
 
 -- the desk once the values that words spell are stored in a row, and as many of its places are lent

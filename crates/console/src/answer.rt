@@ -3,7 +3,7 @@ ghost use mathlib.Core.Path.{_≡_};
 ghost use lib.ListN.{take};
 ghost use Prim.Native.Nat.{_≤_};
 ghost use Rattle.lending.specs.Stores.{stores, Full};
-ghost use Rattle.requests.specs.Desk.{desk};
+ghost use Rattle.desk.specs.Desk.{desk};
 ghost use Rattle.console.specs.Input.{askedBy};
 ghost use Rattle.console.specs.Answers.{Answered};
 use crate::state::State;
@@ -14,10 +14,10 @@ use commands::command_of;
 use lending::lend;
 use lending::rows::clear_rows;
 use pages::PAGE;
+use plans::written::save;
 use replies::words::put_fault;
 use replies::words::put_ok;
 use requests::obey;
-use requests::written::save;
 use scan::pieces::front;
 
 // What a line of so many bytes asks for.

@@ -1,9 +1,9 @@
 -- Laws of stretches.
-use Prim.Native.Nat.{ℕ, _+_, _-_, _≤_, _<_, min}
+use Prim.Native.Nat.{ℕ, _+_, _-_, _≤_}
 use mathlib.Core.Path.{_≡_, refl, sym, ap, subst, _∙_}
 use mathlib.Core.List.{List, [], _++_, map, append-nil}
 use native.Mathlib.Omega.{arith}
-use lib.ListN.{length, getD, take, drop, length-take, length-drop}
+use lib.ListN.{length, take, drop, length-take, length-drop, length-append}
 use lib.Seq.{drop-drop, drop-length, take-all, length-take-le, take-append-seam}
 use Rattle.commands.specs.Rows.{Value, Lies, sizeOf, stretchOf, kindOf, placesOf}
 use Rattle.commands.specs.Commands.{valuesJudged}
@@ -23,17 +23,24 @@ part-few {A} lent r store part p =
     let n = ap (length {A = A}) p ∙ length-take (lentAt lent (stretchOf r)) (drop (stretchOf r .start) store) in
     omega arith
 
--- what was copied
-pub fetch-is : {A : Type 0} (values old new : List A) → new ≡ stored values old → take (length values) new ≡ values
-fetch-is values old new p = rw p (take-append-seam values (drop (length values) old))
+-- nor is more given back than was lent
+pub part-fits : {A : Type 0} (lent : Lent) (r : Row) (store part : List A) {n : ℕ} → part ≡ partAt lent (stretchOf r) store → n ≡ length part → n ≤ placesOf r
+part-fits lent r store part p e = let few = part-few lent r store part p in omega (arith, few, e)
+
+-- what was copied to the first places of a list
+pub fetched : {A : Type 0} (part values old new : List A) → values ≡ part → new ≡ stored values old → (length values ≤ length new) × (take (length values) new ≡ part)
+fetched {A} part values old new e p =
+    let long = ap (length {A = A}) p ∙ length-append values (drop (length values) old) in
+    (omega (arith, long), rw p (take-append-seam values (drop (length values) old)) ∙ e)
 
 -- a stretch that was looked up in the table, where the row's kind is known
 module _ (s : Stretch) (r : Row) (e : s ≡ stretchOf r) (l : Lies s) where
-  pub lies-in : (k : Kind) → kindOf r ≡ k → s .start + s .places ≤ sizeOf k
-  lies-in k q = subst (λ (x : Kind). s .start + s .places ≤ sizeOf x) (ap (λ (t : Stretch). t .kind) e ∙ q) (l .within)
-
   pub lies-here : (k : Kind) → s .kind ≡ k → s .start + s .places ≤ sizeOf k
   lies-here k q = subst (λ (x : Kind). s .start + s .places ≤ sizeOf x) q (l .within)
+
+  -- it lies in a whole store of the row's kind
+  pub lies-in : {A : Type 0} (k : Kind) → kindOf r ≡ k → (store : List A) → length store ≡ sizeOf k → s .start + s .places ≤ length store
+  lies-in k q store n = let h = lies-here k (ap (λ (t : Stretch). t .kind) e ∙ q) in omega (arith, h, n)
 
   pub places-are : s .places ≡ placesOf r
   places-are = ap (λ (t : Stretch). t .places) e
@@ -55,9 +62,9 @@ module _ (s : Stretch) (r : Row) (e : s ≡ stretchOf r) (l : Lies s) where
   row-long lent all f = by-kind (kindOf r) refl
     where
       by-kind : (k : Kind) → kindOf r ≡ k → length (partAt lent (stretchOf r) (storeOf k all)) ≡ lentAt lent s
-      by-kind Counts q = part-long lent (all .counts) (let h = lies-in Counts q in omega (arith, h, f .counts))
-      by-kind Numbers q = part-long lent (all .numbers) (let h = lies-in Numbers q in omega (arith, h, f .numbers))
-      by-kind Bytes q = part-long lent (all .bytes) (let h = lies-in Bytes q in omega (arith, h, f .bytes))
+      by-kind Counts q = part-long lent (all .counts) (lies-in Counts q (all .counts) (f .counts))
+      by-kind Numbers q = part-long lent (all .numbers) (lies-in Numbers q (all .numbers) (f .numbers))
+      by-kind Bytes q = part-long lent (all .bytes) (lies-in Bytes q (all .bytes) (f .bytes))
 
   -- values that are stored from its first place on: what is put back, where the part from there on was lent
   pub put-is : {A : Type 0} (values old ys : List A) → ys ≡ stored values (take (length old - s .start) (drop (s .start) old))

@@ -1,6 +1,5 @@
 // The console's rows, and what is lent of them.
 ghost use mathlib.Core.Path.{_≡_};
-ghost use mathlib.Core.List.{_++_};
 ghost use Prim.Native.Nat.{_≤_, _<_};
 ghost use lib.ListN.{length, take, replicate};
 ghost use lib.IntN.{pos};
@@ -102,10 +101,22 @@ pub fn copy_numbers(to: &mut [i32], values: &[i32])
     }
 }
 
+pub fn copy_bytes(to: &mut [u8], values: &[u8])
+    requires { ⌜ length (now values) ≤ length (now to) ⌝ }
+    ensures { λ _. ⌜ now (to .exit) ≡ stored (now (values .entry)) (now (to .entry)) ⌝ }
+{
+    let mut i = 0;
+    while i < values.len() {
+        let v = values[i];
+        to[i] = v;
+        i += 1;
+    }
+}
+
 // Copies the lent places of a row, and answers how many they are.
 pub fn fetch_counts(counts: &[u32], lent: Lent, row: Row, to: &mut [u32]) -> usize
     requires { ⌜ (kindOf row ≡ Counts) × (length (now counts) ≡ 32768) × (placesOf row ≤ length (now to)) ⌝ }
-    ensures { λ r. ⌜ (r ≤ length (now (to .entry))) × (take r (now (to .exit)) ≡ partAt lent (stretchOf row) (now (counts .entry))) ⌝ }
+    ensures { λ r. ⌜ (r ≤ length (now (to .exit))) × (take r (now (to .exit)) ≡ partAt lent (stretchOf row) (now (counts .entry))) ⌝ }
 {
     let values = counts_of(counts, lent, row);
     copy_counts(to, values);
@@ -114,10 +125,19 @@ pub fn fetch_counts(counts: &[u32], lent: Lent, row: Row, to: &mut [u32]) -> usi
 
 pub fn fetch_numbers(numbers: &[i32], lent: Lent, row: Row, to: &mut [i32]) -> usize
     requires { ⌜ (kindOf row ≡ Numbers) × (length (now numbers) ≡ 40960) × (placesOf row ≤ length (now to)) ⌝ }
-    ensures { λ r. ⌜ (r ≤ length (now (to .entry))) × (take r (now (to .exit)) ≡ partAt lent (stretchOf row) (now (numbers .entry))) ⌝ }
+    ensures { λ r. ⌜ (r ≤ length (now (to .exit))) × (take r (now (to .exit)) ≡ partAt lent (stretchOf row) (now (numbers .entry))) ⌝ }
 {
     let values = numbers_of(numbers, lent, row);
     copy_numbers(to, values);
+    values.len()
+}
+
+pub fn fetch_bytes(bytes: &[u8], lent: Lent, row: Row, to: &mut [u8]) -> usize
+    requires { ⌜ (kindOf row ≡ Bytes) × (length (now bytes) ≡ 49152) × (placesOf row ≤ length (now to)) ⌝ }
+    ensures { λ r. ⌜ (r ≤ length (now (to .exit))) × (take r (now (to .exit)) ≡ partAt lent (stretchOf row) (now (bytes .entry))) ⌝ }
+{
+    let values = bytes_of(bytes, lent, row);
+    copy_bytes(to, values);
     values.len()
 }
 
@@ -138,6 +158,15 @@ pub fn give_numbers(numbers: &mut [i32], row: Row, values: &[i32])
     let s = row.stretch();
     let a = s.start;
     copy_numbers(&mut numbers[a..], values);
+}
+
+pub fn give_bytes(bytes: &mut [u8], row: Row, values: &[u8])
+    requires { ⌜ (kindOf row ≡ Bytes) × (length (now bytes) ≡ 49152) × (length (now values) ≤ placesOf row) ⌝ }
+    ensures { λ _. ⌜ now (bytes .exit) ≡ putAt (stretchOf row) (now (values .entry)) (now (bytes .entry)) ⌝ }
+{
+    let s = row.stretch();
+    let a = s.start;
+    copy_bytes(&mut bytes[a..], values);
 }
 
 // Makes all places of a store 0.

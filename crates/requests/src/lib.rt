@@ -1,26 +1,22 @@
 // What the console does: a request is met with just the places that are lent, and its reply is put on a page.
-pub mod copies;
-pub mod texts;
-pub mod written;
-
 ghost use Prim.Native.Nat.{_≤_};
 ghost use lib.ListN.{length};
 ghost use Rattle.files.specs.File.{Within, heldIn};
 ghost use Rattle.lending.specs.Stores.{stores, Full};
-ghost use Rattle.requests.specs.Desk.{desk};
-ghost use Rattle.requests.specs.Requests.{Met, Obeyed};
-use crate::copies::call_on;
-use crate::texts::graph;
-use crate::texts::places;
-use crate::written::write_row;
+ghost use Rattle.desk.specs.Desk.{desk};
+ghost use Rattle.desk.specs.Requests.{Met, Obeyed};
 use calls::Done;
 use calls::Sizes;
 use commands::Request;
 use commands::words::after_word;
+use copies::call_on;
 use files::File;
 use files::read_file;
 use lending::rows::Lent;
 use pages::PAGE;
+use plans::reading::graph;
+use plans::reading::places;
+use plans::written::write_row;
 use replies::showing::show_row;
 use replies::words::put_help;
 use replies::words::put_ok;

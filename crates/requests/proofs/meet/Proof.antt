@@ -1,7 +1,7 @@
 -- `requests::meet` meets its contract.
 use native.Mathlib.Omega.{arith}
-use Rattle.requests.specs.Requests.{Meets}
-use Rattle.requests.proofs.RequestLaws.{met-case, met, met-any}
+use Rattle.desk.specs.Requests.{Meets}
+use Rattle.desk.proofs.RequestLaws.{met-case, met, met-any}
 use borrow.Author.Needs.{needs}
 use Rattle.requests.proofs.meet.Statement.{statement}
 use Rattle.requests.proofs.meet.Tie as tie

@@ -1,7 +1,6 @@
 -- `saving::folder_end` meets its contract.
 use Prim.Native.Nat.{_≤_, _-_}
 use lib.ListN.{length}
-use native.Mathlib.Omega.{arith}
 use borrow.Author.Needs.{needs}
 use Rattle.saving.proofs.folder_end.Statement.{statement}
 use Rattle.saving.proofs.folder_end.Tie as tie

@@ -1,8 +1,7 @@
 -- `saving::make_new` meets its contract.
 use Prim.Native.Nat.{_≤_, _-_}
 use mathlib.Core.Path.{_≡_}
-use lib.ListN.{length, length-set}
-use native.Mathlib.Omega.{arith}
+use lib.ListN.{length}
 use borrow.Author.Needs.{needs}
 use Rattle.saving.proofs.make_new.Statement.{statement}
 use Rattle.saving.proofs.make_new.Tie as tie

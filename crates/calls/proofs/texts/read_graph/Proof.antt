@@ -23,17 +23,16 @@ slice-aggregate-read-gr c =
 returns-2 : tie.Need-returns-2
 unfolding graphLine graphSizes
 returns-2 c =
-    let known = c .before .before .enum-told2 .given .1 in
-    let e = ap (heldIn (c .before .before .before .before .before .before .before .before .before .before .before .before .before .before .before .before .before .before .before .before .before .before .args .text .now)) (c .before .before .before .before .before .before .before .before .before .before .before .before .before .before .before .before .file .given .1) in
-    let read = rw known at (c .before .before .before .before .before .before .before .before .before .before .read-gr .ensures) in
-    (record { text = refusalLine _; says = ReadsGraph.file (graph.Refused _) e read; puts = rw known at (c .put-graph-refused .ensures .0) }, omega arith)
+    let e = ap (heldIn (c .before .before .before .before .before .before .before .before .before .before .before .before .before .before .before .before .before .before .before .before .before .before .before .args .text .now)) (c .before .before .before .before .before .before .before .before .before .before .before .before .before .before .before .before .before .file .given .1) in
+    let read = rw (c .before .before .before .reply .given .1) at (c .before .before .before .before .before .before .before .before .before .before .before .read-gr .ensures) in
+    (record { text = sizesLine _ _; says = ReadsGraph.file (graph.Read _ _) e read; puts = c .put-sizes .ensures .0 }, omega arith)
 
 returns-3 : tie.Need-returns-3
 unfolding graphLine graphSizes
 returns-3 c =
     let e = ap (heldIn (c .before .before .before .before .before .before .before .before .before .before .before .before .before .before .before .before .before .before .before .before .before .before .before .args .text .now)) (c .before .before .before .before .before .before .before .before .before .before .before .before .before .before .before .before .before .file .given .1) in
-    let read = rw (c .before .before .before .reply .given .1) at (c .before .before .before .before .before .before .before .before .before .before .before .read-gr .ensures) in
-    (record { text = sizesLine _ _; says = ReadsGraph.file (graph.Read _ _) e read; puts = c .put-sizes .ensures .0 }, omega arith)
+    let read = rw (c .before .before .before .reply2 .given .1) at (c .before .before .before .before .before .before .before .before .before .before .before .read-gr .ensures) in
+    (record { text = refusalLine _; says = ReadsGraph.file (graph.Refused _) e read; puts = c .put-refusal .ensures .0 }, omega arith)
 
 pub read-graph-spec : {M : Type 1} → statement M
 read-graph-spec =
@@ -42,8 +41,8 @@ read-graph-spec =
     (λ c. search needs) (λ c. search needs) (λ c κs. search needs)
     returns
     slice-aggregate-read-gr
-    (λ c κs. search needs) (λ c. search needs) (λ c. search needs) (λ c κs. search needs) (λ c. search needs)
-    (λ c. search needs) (λ c. search needs)
+    (λ c κs. search needs) (λ c. search needs) (λ c κs. search needs) (λ c. search needs) (λ c. search needs)
+    (λ c. search needs)
     returns-2
-    (λ c κs. search needs) (λ c. search needs) (λ c. search needs) (λ c. search needs)
+    (λ c. search needs) (λ c κs. search needs) (λ c. search needs) (λ c. search needs) (λ c. search needs)
     returns-3)

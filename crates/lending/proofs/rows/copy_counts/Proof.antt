@@ -1,13 +1,9 @@
 -- `lending::rows::copy_counts` meets its contract.
 use Prim.Native.Nat.{_-_, _<_}
-use mathlib.Core.Path.{_≡_, refl}
+use mathlib.Core.Path.{refl}
 use native.Mathlib.Omega.{arith}
 use lib.ListN.{length}
-use lib.IntN.{pos}
-use mir.Syntax.{w32}
-use mir.Val.{toZ, ofZ}
-use mir.Facts.{toZ-ofZ}
-use borrow.Author.Needs.{needs, sfits-of}
+use borrow.Author.Needs.{needs}
 use Rattle.lending.proofs.StoreLaws.{Copying, copy-start, copy-more, copy-end}
 use Rattle.lending.proofs.rows.copy_counts.Statement.{statement}
 use Rattle.lending.proofs.rows.copy_counts.Tie as tie

@@ -1,9 +1,8 @@
 -- `lending::rows::fetch_counts` meets its contract.
 use Prim.Native.Nat.{_≤_}
-use mathlib.Core.Path.{_∙_}
 use native.Mathlib.Omega.{arith}
 use lib.ListN.{length}
-use Rattle.lending.proofs.PartLaws.{part-few, fetch-is}
+use Rattle.lending.proofs.PartLaws.{part-few, fetched}
 use borrow.Author.Needs.{needs}
 use Rattle.lending.proofs.rows.fetch_counts.Statement.{statement}
 use Rattle.lending.proofs.rows.fetch_counts.Tie as tie
@@ -15,7 +14,7 @@ few c =
     omega (arith, h, c .before .before .before .pre .2)
 
 returns : tie.Need-returns
-returns c = (few (c .before .before .before .before), fetch-is _ _ _ (c .before .before .copy-counts .ensures) ∙ c .before .before .before .before .counts-of .ensures)
+returns c = fetched _ _ _ _ (c .before .before .before .before .counts-of .ensures) (c .before .before .copy-counts .ensures)
 
 pub fetch-counts-spec : {M : Type 1} → statement M
 fetch-counts-spec = tie.close (tie.spec (λ c κs. search needs) (λ c κs. few (c .before)) (λ c. search needs) returns)

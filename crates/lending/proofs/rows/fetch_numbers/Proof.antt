@@ -1,9 +1,8 @@
 -- `lending::rows::fetch_numbers` meets its contract.
 use Prim.Native.Nat.{_≤_}
-use mathlib.Core.Path.{_∙_}
 use native.Mathlib.Omega.{arith}
 use lib.ListN.{length}
-use Rattle.lending.proofs.PartLaws.{part-few, fetch-is}
+use Rattle.lending.proofs.PartLaws.{part-few, fetched}
 use borrow.Author.Needs.{needs}
 use Rattle.lending.proofs.rows.fetch_numbers.Statement.{statement}
 use Rattle.lending.proofs.rows.fetch_numbers.Tie as tie
@@ -15,7 +14,7 @@ few c =
     omega (arith, h, c .before .pre .2)
 
 returns : tie.Need-returns
-returns c = (few (c .before .before .before), fetch-is _ _ _ (c .before .copy-numbers .ensures) ∙ c .before .before .before .numbers-of .ensures)
+returns c = fetched _ _ _ _ (c .before .before .before .numbers-of .ensures) (c .before .copy-numbers .ensures)
 
 pub fetch-numbers-spec : {M : Type 1} → statement M
 fetch-numbers-spec = tie.close (tie.spec (λ c κs. search needs) (λ c κs. few (c .before)) (λ c. search needs) returns)

@@ -1,6 +1,5 @@
 -- `lending::rows::give_counts` meets its contract.
 use Prim.Native.Nat.{_+_, _≤_}
-use native.Mathlib.Omega.{arith}
 use lib.ListN.{length}
 use Rattle.commands.specs.declared.rows.Kind.the-variants.{Counts}
 use Rattle.lending.proofs.PartLaws.{lies-in, room-is, put-is}
@@ -9,9 +8,7 @@ use Rattle.lending.proofs.rows.give_counts.Statement.{statement}
 use Rattle.lending.proofs.rows.give_counts.Tie as tie
 
 room : (c : tie.After-stretch) → c .stretch .result .start + c .stretch .result .places ≤ length (c .before .before .before .args .counts .now)
-room c =
-    let h = lies-in _ (c .before .before .before .args .row) (c .stretch .ensures .0) (c .stretch .ensures .1) Counts (c .before .before .before .pre .0) in
-    omega (arith, h, c .before .before .before .pre .1)
+room c = lies-in _ (c .before .before .before .args .row) (c .stretch .ensures .0) (c .stretch .ensures .1) Counts (c .before .before .before .pre .0) (c .before .before .before .args .counts .now) (c .before .before .before .pre .1)
 
 copy-counts-requires : tie.Need-copy-counts-requires
 copy-counts-requires c κs =

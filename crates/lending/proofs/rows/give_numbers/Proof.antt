@@ -1,6 +1,5 @@
 -- `lending::rows::give_numbers` meets its contract.
 use Prim.Native.Nat.{_+_, _≤_}
-use native.Mathlib.Omega.{arith}
 use lib.ListN.{length}
 use Rattle.commands.specs.declared.rows.Kind.the-variants.{Numbers}
 use Rattle.lending.proofs.PartLaws.{lies-in, room-is, put-is}
@@ -9,9 +8,7 @@ use Rattle.lending.proofs.rows.give_numbers.Statement.{statement}
 use Rattle.lending.proofs.rows.give_numbers.Tie as tie
 
 room : (c : tie.After-stretch) → c .stretch .result .start + c .stretch .result .places ≤ length (c .before .args .numbers .now)
-room c =
-    let h = lies-in _ (c .before .args .row) (c .stretch .ensures .0) (c .stretch .ensures .1) Numbers (c .before .pre .0) in
-    omega (arith, h, c .before .pre .1)
+room c = lies-in _ (c .before .args .row) (c .stretch .ensures .0) (c .stretch .ensures .1) Numbers (c .before .pre .0) (c .before .args .numbers .now) (c .before .pre .1)
 
 copy-numbers-requires : tie.Need-copy-numbers-requires
 copy-numbers-requires c κs =

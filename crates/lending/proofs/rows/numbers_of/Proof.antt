@@ -11,8 +11,8 @@ use Rattle.lending.proofs.rows.numbers_of.Tie as tie
 -- the stretch lies in the store
 room : (c : tie.After-lent-at) → c .before .stretch .result .start + c .lent-at .result ≤ length (c .before .before .args .numbers .now)
 room c =
-    let h = lies-in _ (c .before .before .args .row) (c .before .stretch .ensures .0) (c .before .stretch .ensures .1) Numbers (c .before .before .pre .0) in
-    omega (arith, h, c .lent-at .ensures, c .before .before .pre .1)
+    let lies = lies-in _ (c .before .before .args .row) (c .before .stretch .ensures .0) (c .before .stretch .ensures .1) Numbers (c .before .before .pre .0) (c .before .before .args .numbers .now) (c .before .before .pre .1) in
+    omega (arith, lies, c .lent-at .ensures)
 
 returns : tie.Need-returns
 returns c = part-is _ (c .before .before .before .args .row) (c .before .before .stretch .ensures .0) (c .before .before .stretch .ensures .1) _ _ _ (c .before .lent-at .ensures)

@@ -1,0 +1,4 @@
+pub mod DeskLaws
+pub mod RequestLaws
+pub mod Unique
+pub mod WrittenLaws

@@ -1,4 +1,0 @@
-pub mod DeskLaws
-mod RequestLaws
-pub mod Unique
-mod WrittenLaws
