@@ -52,7 +52,7 @@ struct Hand {
             if (u == t) break;
             for (int place = index.first[u]; place < index.first[u + 1]; place++) {
                 int e = index.order[place];
-                if (boxed && !holds(e, t)) continue;
+                if (net.arcs[e].closed || (boxed && !holds(e, t))) continue;
                 int v = net.arcs[e].*index.onward;
                 long long offered = least + net.arcs[e].weight * 1024LL + 1;
                 if (key[v] < 0 || offered < key[v]) {
@@ -82,7 +82,7 @@ struct Hand {
             search(t, -1, in, false);
             for (size_t e = 0; e < boxes.size(); e++) {
                 const Arc &arc = net.arcs[e];
-                if (key[arc.head] >= 0 && key[arc.tail] / 1024 == key[arc.head] / 1024 + arc.weight) grow(e, t);
+                if (!arc.closed && key[arc.head] >= 0 && key[arc.tail] / 1024 == key[arc.head] / 1024 + arc.weight) grow(e, t);
             }
         }
     }

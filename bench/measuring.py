@@ -72,7 +72,7 @@ def console_costs(console: Console, net: Network, stem: Path) -> dict[str, Cost]
         "read_co": console.cost([gr, co], [co]),
         "build": console.cost(built, ["build"]),
         "check": console.cost(built, ["check"]),
-        "update": console.cost(built, [f"update 1 {net.arcs[0][2]}"]),
+        "update": console.cost(built, [f"update 1 {net.arcs[0][2]} 0"]),
         "boxes": console.cost(built, [f"show boxes {4 * len(net.arcs)}"], "boxes"),
         "line": console.cost(built, [f"n {net.n}"] * 100),
     }

@@ -10,7 +10,7 @@ using std::pair;
 using std::string;
 using std::vector;
 
-struct Arc { int tail, head, weight; };
+struct Arc { int tail, head, weight; bool closed = false; };
 
 // Nodes and arcs are numbered from 0 here.
 struct Network {

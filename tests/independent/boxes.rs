@@ -1,6 +1,6 @@
 //! Boxes: what they hold, the set S(e), the tight box, and what a box misses.
 
-use crate::network::{lengths, Arc};
+use crate::network::{lengths, open, Arc};
 use crate::sizes::is_coordinate;
 
 pub type Place = (i64, i64);
@@ -47,11 +47,13 @@ impl Rectangle {
     }
 }
 
-/// S(e) for every arc e=(u,v): every t with d(v,t) defined and w+d(v,t) = d(u,t), in rising order.
+/// S(e) for every arc e=(u,v): every t with d(v,t) defined and w+d(v,t) = d(u,t) in the open network, in rising
+/// order. That of a closed arc is empty.
 pub fn all_s(n: usize, arcs: &[Arc]) -> Vec<Vec<usize>> {
-    let d = lengths(n, arcs);
-    let in_s =
-        |arc: &Arc, t: usize| d[arc.head][t].is_some_and(|rest| Some(arc.weight + rest) == d[arc.tail][t]);
+    let d = lengths(n, &open(arcs));
+    let in_s = |arc: &Arc, t: usize| {
+        !arc.closed && d[arc.head][t].is_some_and(|rest| Some(arc.weight + rest) == d[arc.tail][t])
+    };
     arcs.iter().map(|arc| (1..=n).filter(|t| in_s(arc, *t)).collect()).collect()
 }
 

@@ -1,13 +1,13 @@
-//! The calls on lent rows, with 01's refusals in 01's order:
-//! 5 for n or m, 2, 8, 9, 10, 11, 5 for a new weight, 12, 13.
+//! The calls on lent rows, with the refusals in their order:
+//! 5 for n or m, 2, 8, 14, 9, 10, 11, 5 for a new weight, 14 for a new byte, 12, 13.
 
 use crate::boxes::{missed, tight, Place, Rectangle};
 use crate::lent::{fill, Lent};
-use crate::network::{self, Arc, Found};
+use crate::network::{self, open, Arc, Found};
 use crate::refusals::{refused, Refusal};
 use crate::sizes::*;
 
-/// The arcs, after refusals 5, 2 and 8. `others` are the rows needed besides the arc rows, with their places.
+/// The arcs, as if all were open, after refusals 5, 2 and 8. `others` are the rows needed besides the arc rows, with their places.
 pub fn judge_arcs(lent: &Lent, others: &[(&Vec<i64>, i64)]) -> Result<Vec<Arc>, Refusal> {
     let (n, m) = (lent.n, lent.m);
     if !is_node_count(n) || !is_arc_count(m) {
@@ -23,7 +23,19 @@ pub fn judge_arcs(lent: &Lent, others: &[(&Vec<i64>, i64)]) -> Result<Vec<Arc>, 
         if !is_node(tail, n) || !is_node(head, n) || !is_weight(weight) {
             return refused(8, &[e as i64 + 1]);
         }
-        arcs.push(Arc { number: e + 1, tail: tail as usize, head: head as usize, weight });
+        arcs.push(Arc { number: e + 1, tail: tail as usize, head: head as usize, weight, closed: false });
+    }
+    Ok(arcs)
+}
+
+/// The arcs with their closures, after refusals 5, 2, 8 and 14.
+pub fn judge_network(lent: &Lent, others: &[(&Vec<i64>, i64)]) -> Result<Vec<Arc>, Refusal> {
+    let mut arcs = judge_arcs(lent, &[&[(&lent.closed, lent.m)], others].concat())?;
+    for (arc, byte) in arcs.iter_mut().zip(&lent.closed) {
+        if !is_closure(*byte) {
+            return refused(14, &[arc.number as i64]);
+        }
+        arc.closed = *byte == 1;
     }
     Ok(arcs)
 }
@@ -59,21 +71,21 @@ fn judge_ends(lent: &Lent, s: i64, t: i64) -> Result<(usize, usize), Refusal> {
     Ok((s as usize, t as usize))
 }
 
-/// The rows that box work needs besides the arc rows.
+/// The rows that box work needs besides those of the network.
 fn box_rows(lent: &Lent) -> [(&Vec<i64>, i64); 3] {
     [(&lent.x, lent.n), (&lent.y, lent.n), (&lent.boxes, 4 * lent.m)]
 }
 
-/// Searches the network of `arcs`, and writes the route if there is one.
+/// Searches the network of those of the arcs that are open, and writes the route if there is one.
 fn search_among(lent: &mut Lent, arcs: &[Arc], s: usize, t: usize) -> Result<Found, Refusal> {
-    let found = network::search(lent.n as usize, arcs, s, t)?;
+    let found = network::search(lent.n as usize, &open(arcs), s, t)?;
     fill(&mut lent.route, found.route.iter().map(|arc| *arc as i64));
     Ok(found)
 }
 
 /// Search without boxes.
 pub fn search(lent: &mut Lent, s: i64, t: i64) -> Result<Found, Refusal> {
-    let arcs = judge_arcs(lent, &[(&lent.route, lent.n)])?;
+    let arcs = judge_network(lent, &[(&lent.route, lent.n)])?;
     let (s, t) = judge_ends(lent, s, t)?;
     search_among(lent, &arcs, s, t)
 }
@@ -81,7 +93,7 @@ pub fn search(lent: &mut Lent, s: i64, t: i64) -> Result<Found, Refusal> {
 /// Search with boxes: the network of only those arcs whose box holds t.
 pub fn boxed(lent: &mut Lent, s: i64, t: i64) -> Result<Found, Refusal> {
     let [x, y, boxes] = box_rows(lent);
-    let arcs = judge_arcs(lent, &[(&lent.route, lent.n), x, y, boxes])?;
+    let arcs = judge_network(lent, &[(&lent.route, lent.n), x, y, boxes])?;
     let places = judge_places(lent)?;
     let boxes = judge_boxes(lent)?;
     let (s, t) = judge_ends(lent, s, t)?;
@@ -95,7 +107,7 @@ fn write_boxes(lent: &mut Lent, boxes: &[Rectangle]) {
 
 /// Build writes the tight boxes.
 pub fn build(lent: &mut Lent) -> Result<(), Refusal> {
-    let arcs = judge_arcs(lent, &box_rows(lent))?;
+    let arcs = judge_network(lent, &box_rows(lent))?;
     let places = judge_places(lent)?;
     write_boxes(lent, &tight(lent.n as usize, &arcs, &places));
     Ok(())
@@ -103,7 +115,7 @@ pub fn build(lent: &mut Lent) -> Result<(), Refusal> {
 
 /// Check accepts exactly consistent boxes.
 pub fn check(lent: &Lent) -> Result<(), Refusal> {
-    let arcs = judge_arcs(lent, &box_rows(lent))?;
+    let arcs = judge_network(lent, &box_rows(lent))?;
     let places = judge_places(lent)?;
     let boxes = judge_boxes(lent)?;
     match missed(lent.n as usize, &arcs, &places, &boxes) {
@@ -112,10 +124,10 @@ pub fn check(lent: &Lent) -> Result<(), Refusal> {
     }
 }
 
-/// Update writes one arc's new weight and makes each box the smallest
+/// Update writes one arc's new weight and byte and makes each box the smallest
 /// that holds its old box and its tight box in the new network.
-pub fn update(lent: &mut Lent, arc: i64, weight: i64) -> Result<(), Refusal> {
-    let mut arcs = judge_arcs(lent, &box_rows(lent))?;
+pub fn update(lent: &mut Lent, arc: i64, weight: i64, byte: i64) -> Result<(), Refusal> {
+    let mut arcs = judge_network(lent, &box_rows(lent))?;
     let places = judge_places(lent)?;
     let old = judge_boxes(lent)?;
     if !(1..=lent.m).contains(&arc) {
@@ -124,9 +136,12 @@ pub fn update(lent: &mut Lent, arc: i64, weight: i64) -> Result<(), Refusal> {
     if !is_weight(weight) {
         return refused(5, &[0]);
     }
+    if !is_closure(byte) {
+        return refused(14, &[arc]);
+    }
     let e = arc as usize - 1;
-    arcs[e].weight = weight;
-    lent.weights[e] = weight;
+    (arcs[e].weight, arcs[e].closed) = (weight, byte == 1);
+    (lent.weights[e], lent.closed[e]) = (weight, byte);
     let tight = tight(lent.n as usize, &arcs, &places);
     let grown: Vec<Rectangle> = old.iter().zip(&tight).map(|(old, tight)| old.hull(tight)).collect();
     write_boxes(lent, &grown);

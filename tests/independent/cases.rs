@@ -5,7 +5,7 @@ use crate::files::joined;
 use crate::lent::Lent;
 use crate::plans::{add_surplus, ask, change_boxes, plan, some_bytes, spoil, Asked};
 use crate::random::Random;
-use crate::sizes::NODES;
+use crate::sizes::{NODES, WEIGHT};
 use crate::texts::{co_text, damage, gr_text};
 use crate::writing::{write_co, write_gr};
 
@@ -72,26 +72,28 @@ impl Case {
             self.say(format!("show {}", row.name));
         }
     }
+}
 
-    /// Makes some call with the numbers asked.
-    fn call(&mut self, random: &mut Random, asked: &Asked) {
-        let Asked { s, t, arc, weight } = asked;
-        self.say(match random.below(7) {
-            0 => "build".to_string(),
-            1 => "check".to_string(),
-            2 | 3 => format!("update {arc} {weight}"),
-            4 => format!("search {s} {t}"),
-            _ => format!("boxed {s} {t}"),
-        });
-    }
+/// So many different calls with the numbers asked, in any order.
+fn some_calls(random: &mut Random, asked: &Asked, count: usize) -> Vec<String> {
+    let Asked { s, t, arc, weight, byte } = asked;
+    let mut calls = vec![
+        "build".to_string(),
+        "check".to_string(),
+        format!("update {arc} {weight} {byte}"),
+        format!("search {s} {t}"),
+        format!("boxed {s} {t}"),
+    ];
+    (0..count).map(|_| calls.swap_remove(random.below(calls.len()))).collect()
 }
 
 /// A small case of any kind. `name` is for its files.
 pub fn small(random: &mut Random, name: &str) -> Case {
     match random.below(12) {
-        0..=2 => text_case(random, name),
-        3 => talk_case(random),
-        4 | 5 => write_case(random, name),
+        0 | 1 => text_case(random, name),
+        2 => talk_case(random),
+        3 | 4 => write_case(random, name),
+        5 | 6 => update_case(random),
         _ => call_case(random),
     }
 }
@@ -109,14 +111,47 @@ pub fn call_case(random: &mut Random) -> Case {
     }
     let mut case = Case::default();
     case.lend(&lent);
-    for _ in 0..random.pick(&[1, 1, 1, 2, 3]) {
-        case.call(random, &asked);
+    let count = random.pick(&[1, 2, 2, 3]);
+    for call in some_calls(random, &asked, count) {
+        case.say(call);
         case.show_rows();
     }
     case
 }
 
+/// Tracks of a small plan closed, opened and given other times one after the other, with something wrong in the rows
+/// once in three times and in the numbers often; then the boxes are checked, and searched with and without.
+pub fn update_case(random: &mut Random) -> Case {
+    let (n, m) = (random.between(1, 7), random.between(1, 14));
+    let mut lent = plan(random, n, m);
+    let pairs = [ask(random, &lent), ask(random, &lent)];
+    change_boxes(random, &mut lent);
+    add_surplus(random, &mut lent);
+    if random.once_in(3) {
+        let mut unused = ask(random, &lent);
+        spoil(random, &mut lent, &mut unused);
+    }
+    let mut case = Case::default();
+    case.lend(&lent);
+    for _ in 0..random.pick(&[1, 2, 3]) {
+        let arc = if random.once_in(6) { random.pick(&[0, m + 1]) } else { random.between(1, m) };
+        let weight = random.pick(&[0, 1, 3, 7, WEIGHT, WEIGHT + 1]);
+        let byte = random.pick(&[0, 0, 1, 1, 1, 2, 255]);
+        case.say(format!("update {arc} {weight} {byte}"));
+        for row in ["weights", "boxes", "closed"] {
+            case.say(format!("show {row}"));
+        }
+    }
+    case.say("check");
+    for Asked { s, t, .. } in pairs {
+        case.say(format!("search {s} {t}"));
+        case.say(format!("boxed {s} {t}"));
+    }
+    case
+}
+
 /// The texts of a small plan, damaged or not, read into rows that are long, just long enough or too short.
+/// The row `closed` holds any bytes before.
 pub fn text_case(random: &mut Random, name: &str) -> Case {
     let (n, m) = (random.between(1, 6), random.between(0, 8));
     let plan = plan(random, n, m);
@@ -137,13 +172,16 @@ pub fn text_case(random: &mut Random, name: &str) -> Case {
             *(row.of)(&mut lent) = (0..places).map(|_| random.between(0, 9)).collect();
         }
         case.lend(&lent);
+    } else if !random.once_in(3) {
+        let places = random.pick(&[2_047, 2_048, 2_048, 2_048, 2_049, 2_049, 2_060, 2_060]);
+        case.say(format!("lend closed{}", format!(" {}", random.between(1, 9)).repeat(places)));
     }
     case.say(format!("gr {name}.gr"));
     if random.once_in(3) {
         case.say(format!("n {}", random.pick(&[n, n, n + 1, 0, NODES, NODES + 1, 4_294_967_295])));
     }
     case.say(format!("co {name}.co"));
-    case.call(random, &asked);
+    case.say(&some_calls(random, &asked, 1)[0]);
     // Writing what was read.
     for line in ["write gr", "show text 160", "write co"] {
         case.say(line);
@@ -224,7 +262,7 @@ pub fn write_case(random: &mut Random, name: &str) -> Case {
 
 /// Lines that are no commands, or that name numbers at the ends of their types.
 #[rustfmt::skip]
-pub const ODD_LINES: [&[u8]; 73] = [
+pub const ODD_LINES: [&[u8]; 85] = [
     b"", b" ", b"\t", b"\r", b"  ", b" n 1", b"n 1 ", b"n  1", b"n\t1", b"n 1\r", b"n\r", b" \r",
     b"N 1", b"nn 1", b"1", b"?", b"n", b"m", b"n 1 2", b"n 01", b"n -1", b"n -0", b"n +1", b"n x", b"n 0",
     b"m 4294967295", b"m 4294967296", b"n 18446744073709551617", b"m 1x",
@@ -236,6 +274,9 @@ pub const ODD_LINES: [&[u8]; 73] = [
     b"build 1", b"update 1", b"search 1", b"boxed 1 1 1", b"search 1 4294967296",
     b"write", b"write gr co", b"write x", b"write x y", b"save", b"save gr", b"save co a b", b"save x", b"save x a",
     b"save gr .", b"save co missing/a", b"lend text 256", b"lend text -1", b"lend text 255 0", b"show text 40961",
+    b"update 1 1", b"update 1 1 0 boxes", b"update 1 1 256", b"update 1 1 4294967296", b"update 1 1 -1",
+    b"update x 4294967296 256", b"update 1 4294967296 x", b"update 1 1 01", b"update 1 1 255",
+    b"lend closed 256", b"lend closed 255 2 1 0", b"show closed 4097",
 ];
 
 /// A row of more numbers than the console has places for; the last is misspelt, which comes second.

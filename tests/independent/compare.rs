@@ -1,4 +1,4 @@
-//! The comparison: what two programs write for many cases, beside what 01 demands.
+//! The comparison: what two programs write for many cases, beside what 01 and 02 demand.
 
 use crate::cases::{boxes_case, small, Case};
 use crate::files::listing;
@@ -247,7 +247,7 @@ fn all_agree(
         comparison.compare(console, &[case])?;
     }
     comparison.tell("ends of input and long lines");
-    for kind in 0..3 {
+    for kind in 0..4 {
         comparison.compare(console, &[limit_case(random, kind)])?;
     }
     comparison.compare(console, &[limit_texts(random, "limit")])?;

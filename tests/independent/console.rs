@@ -47,7 +47,7 @@ pub struct Row {
 }
 
 #[rustfmt::skip]
-pub const ROWS: [Row; 8] = [
+pub const ROWS: [Row; 9] = [
     Row { name: "tails", places: 4_096, kind: Kind::Count, of: |lent| &mut lent.tails },
     Row { name: "heads", places: 4_096, kind: Kind::Count, of: |lent| &mut lent.heads },
     Row { name: "weights", places: 4_096, kind: Kind::Count, of: |lent| &mut lent.weights },
@@ -56,6 +56,7 @@ pub const ROWS: [Row; 8] = [
     Row { name: "boxes", places: 16_384, kind: Kind::Signed, of: |lent| &mut lent.boxes },
     Row { name: "route", places: 1_024, kind: Kind::Count, of: |lent| &mut lent.route },
     Row { name: "text", places: 40_960, kind: Kind::Byte, of: |lent| &mut lent.text },
+    Row { name: "closed", places: 4_096, kind: Kind::Byte, of: |lent| &mut lent.closed },
 ];
 
 /// Why a line is no command. Of several faults the first in this list is told;
@@ -98,8 +99,8 @@ const COMMANDS: [&[u8]; 13] = [
 
 pub const HELP: &str =
     "commands: n N, m M, lend ROW VALUES, show ROW, show ROW K, gr FILE, co FILE, build, check, \
-    update ARC WEIGHT, search S T, boxed S T, write gr, write co, save gr FILE, save co FILE, fresh, help; \
-    rows: tails, heads, weights, x, y, boxes, route, text";
+    update ARC WEIGHT BYTE, search S T, boxed S T, write gr, write co, save gr FILE, save co FILE, fresh, help; \
+    rows: tails, heads, weights, x, y, boxes, route, text, closed";
 
 /// A reply other than the one hoped for.
 enum No {
@@ -211,7 +212,9 @@ impl Console {
             [b"co", file] => read_co(&folder.read(file)?, lent)?,
             [b"build"] => calls::build(lent)?,
             [b"check"] => calls::check(lent)?,
-            [b"update", arc, weight] => calls::update(lent, count(arc)?, count(weight)?)?,
+            [b"update", arc, weight, byte] => {
+                calls::update(lent, count(arc)?, count(weight)?, value(byte, Kind::Byte)?)?
+            }
             [b"search", s, t] => return Ok(told(calls::search(lent, count(s)?, count(t)?)?)),
             [b"boxed", s, t] => return Ok(told(calls::boxed(lent, count(s)?, count(t)?)?)),
             // The kind of file is part of the command's name.

@@ -88,6 +88,7 @@ pub fn rows_for_reading() -> Lent {
         x: nodes.clone(),
         y: nodes,
         boxes: vec![0; 4 * ARCS as usize],
+        closed: vec![0; ARCS as usize],
         ..Lent::default()
     }
 }

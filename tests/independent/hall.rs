@@ -35,7 +35,7 @@ pub const TALK: [(&str, &str); 40] = [
     ("lend boxes -5 10 0 20 -5 10 0 20 -5 10 6 20 -5 10 0 20 -5 -5 20 20 0 10 0 5", "ok"),
     ("check", "refused 13 3 3 (the box of arc 3 misses node 3)"),
     ("build", "ok"),
-    ("update 5 6", "ok"),
+    ("update 5 6 0", "ok"),
     ("show weights 6", "weights 3 2 5 1 6 4"),
     ("check", "ok"),
     ("boxed 1 4", "ok 6 1 4 5"),

@@ -14,6 +14,8 @@ pub struct Lent {
     pub route: Vec<i64>,
     /// Bytes.
     pub text: Vec<i64>,
+    /// Bytes: of each arc 0 where it is open, 1 where it is closed.
+    pub closed: Vec<i64>,
 }
 
 /// Writes the first places of a row; the others keep their contents.

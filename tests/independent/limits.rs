@@ -13,7 +13,7 @@ pub fn streams() -> Vec<Case> {
     let line =
         |begin: &str, bytes: usize| begin.bytes().chain(vec![b'x'; bytes - begin.len()]).collect::<Vec<u8>>();
     let boxes = |places: usize| format!("lend boxes{}", " -2147483648".repeat(places)).into_bytes();
-    let bytes = |places: usize| format!("lend text{}", " 255".repeat(places)).into_bytes();
+    let bytes = |row: &str, places: usize| format!("lend {row}{}", " 255".repeat(places)).into_bytes();
     let (help, show) = (|| b"help".to_vec(), || b"show boxes 3".to_vec());
     let inputs = [
         vec![],
@@ -29,8 +29,10 @@ pub fn streams() -> Vec<Case> {
         vec![vec![0; 1_000_000], show()],
         vec![boxes(16_384), b"show boxes".to_vec()],
         vec![boxes(16_385), show()],
-        vec![bytes(40_960), b"show text".to_vec()],
-        vec![bytes(40_961), b"show text 3".to_vec()],
+        vec![bytes("text", 40_960), b"show text".to_vec()],
+        vec![bytes("text", 40_961), b"show text 3".to_vec()],
+        vec![bytes("closed", 4_096), b"show closed".to_vec()],
+        vec![bytes("closed", 4_097), b"show closed 3".to_vec()],
     ];
     let both_ends = |lines: &Vec<Vec<u8>>| {
         [false, true].map(|unended| Case { lines: lines.clone(), unended, ..Case::default() })
@@ -38,7 +40,7 @@ pub fn streams() -> Vec<Case> {
     inputs.iter().flat_map(both_ends).collect()
 }
 
-/// The largest network with all calls: with the longest way, with any weights, or with many ties.
+/// The largest network with all calls: with the longest way, with any weights, with many ties, or with all arcs closed.
 pub fn limit_case(random: &mut Random, kind: usize) -> Case {
     let mut lent = plan(random, NODES, ARCS);
     for e in 0..ARCS {
@@ -46,10 +48,13 @@ pub fn limit_case(random: &mut Random, kind: usize) -> Case {
             // The longest way there can be: 511 arcs of the greatest weight. All other arcs lead back.
             0 if e < NODES - 1 => (e + 1, e + 2, WEIGHT),
             0 => (NODES, random.between(1, NODES), WEIGHT),
-            1 => (random.between(1, NODES), random.between(1, NODES), random.between(0, WEIGHT)),
+            1 | 3 => (random.between(1, NODES), random.between(1, NODES), random.between(0, WEIGHT)),
             _ => (random.between(1, NODES), random.between(1, NODES), random.between(0, 3)),
         };
-        (lent.tails[e as usize], lent.heads[e as usize], lent.weights[e as usize]) = (tail, head, weight);
+        let closed = kind == 3 || (kind > 0 || e >= NODES) && random.once_in(4);
+        let e = e as usize;
+        (lent.tails[e], lent.heads[e], lent.weights[e]) = (tail, head, weight);
+        lent.closed[e] = i64::from(closed);
     }
     add_surplus(random, &mut lent);
     let mut case = Case::default();
@@ -64,7 +69,11 @@ pub fn limit_case(random: &mut Random, kind: usize) -> Case {
         case.say(format!("boxed {} {}", asked.s, asked.t));
         case.say("show route");
     }
-    case.say(format!("update {} {}", random.between(1, ARCS), random.pick(&[0, WEIGHT])));
+    for byte in [1, 0] {
+        let (arc, weight) = (random.between(1, ARCS), random.pick(&[0, WEIGHT]));
+        case.say(format!("update {arc} {weight} {byte}"));
+    }
+    case.say("check");
     case.show_rows();
     case
 }
@@ -119,15 +128,25 @@ pub fn limit_texts(random: &mut Random, name: &str) -> Case {
     case.file(format!("{name}.gr"), gr_text(random, &lent));
     case.file(format!("{name}.co"), co_text(random, &lent));
     case.say("fresh");
-    case.say(format!("gr {name}.gr"));
+    // A place too few for the closures, then all that the console has: the first 2,048 become 0.
+    for places in [ARCS as usize - 1, 2 * ARCS as usize] {
+        case.say(format!("lend closed{}", " 7".repeat(places)));
+        case.say(format!("gr {name}.gr"));
+    }
     case.say(format!("co {name}.co"));
     case.show_rows();
     // No file has a name with a byte 0 in it.
     case.say(format!("gr {name}.gr\0"));
     for line in
-        ["search 1 512", "n 513", "search 1 1", "build", "n 512", "m 2049", "search 1 1", "update 1 1"]
+        ["search 1 512", "n 513", "search 1 1", "build", "n 512", "m 2049", "search 1 1", "update 1 1 0"]
     {
         case.say(line);
+    }
+    // The last arc's byte is judged, the one behind it is not, and a place too few is refused.
+    for (places, byte) in [(ARCS, 7), (ARCS + 1, 7), (ARCS - 1, 0)] {
+        case.say(format!("m {ARCS}"));
+        case.say(format!("lend closed{} {byte}", " 0".repeat(places as usize - 1)));
+        case.say("search 1 512");
     }
     case
 }

@@ -1,9 +1,10 @@
-//! The independent program: document 01 and request a of 02 a second time, from their words alone, to compare the crates with.
+//! The independent program: document 01 and requests a and b of 02 a second time, from their words alone, to compare the crates with.
 //! It is built by: rustc -O --edition 2021 -o target/independent tests/independent/main.rs
 
 mod boxes;
 mod calls;
 mod cases;
+mod closures;
 mod compare;
 mod console;
 mod files;
@@ -22,6 +23,7 @@ mod sizes;
 mod talks;
 mod text;
 mod texts;
+mod walks;
 mod writing;
 
 use compare::Part;

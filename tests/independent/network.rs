@@ -1,4 +1,5 @@
-//! Lengths, ties, the route and the settled count. Tables are indexed by node; place 0 is unused.
+//! Lengths, ties, the route and the settled count, of networks in which walks use every arc.
+//! Tables are indexed by node; place 0 is unused.
 
 use crate::refusals::{refused, Refusal};
 
@@ -9,6 +10,12 @@ pub struct Arc {
     pub tail: usize,
     pub head: usize,
     pub weight: i64,
+    pub closed: bool,
+}
+
+/// The open network: walks use open arcs only.
+pub fn open(arcs: &[Arc]) -> Vec<Arc> {
+    arcs.iter().filter(|arc| !arc.closed).copied().collect()
 }
 
 /// What a search finds; the count of arcs is that of the route.

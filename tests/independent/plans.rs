@@ -1,4 +1,4 @@
-//! Random plans: networks, places, boxes, lent rows with surplus, and what can be wrong with them.
+//! Random plans: networks, closures, places, boxes, lent rows with surplus, and what can be wrong with them.
 
 use crate::calls::build;
 use crate::console::{Kind, ROWS};
@@ -18,6 +18,7 @@ pub fn plan(random: &mut Random, n: i64, m: i64) -> Lent {
     lent.text = some_bytes(random, 5);
     draw_arcs(random, &mut lent);
     draw_weights(random, &mut lent);
+    draw_closures(random, &mut lent);
     draw_places(random, &mut lent);
     lent.boxes = vec![0; 4 * m as usize];
     build(&mut lent).expect("a plan within the limits has boxes");
@@ -71,6 +72,12 @@ fn draw_weights(random: &mut Random, lent: &mut Lent) {
         let weight = if often_zero && random.once_in(2) { 0 } else { random.between(least, greatest) };
         lent.weights.push(weight);
     }
+}
+
+/// All arcs open; or few, many, half or all of them closed.
+fn draw_closures(random: &mut Random, lent: &mut Lent) {
+    let one_in = random.pick(&[0, 0, 6, 3, 3, 2, 2, 1]);
+    lent.closed = (0..lent.m).map(|_| i64::from(one_in > 0 && random.once_in(one_in))).collect();
 }
 
 /// All at one place; wholly negative; on a small grid with shared places; at the limits; or anywhere.
@@ -142,6 +149,7 @@ pub struct Asked {
     pub t: i64,
     pub arc: i64,
     pub weight: i64,
+    pub byte: i64,
 }
 
 /// Numbers that a call on this plan takes, if it has an arc.
@@ -151,6 +159,7 @@ pub fn ask(random: &mut Random, lent: &Lent) -> Asked {
         t: random.between(1, lent.n),
         arc: random.between(1, lent.m.max(1)),
         weight: random.pick(&[0, 1, 2, 7, WEIGHT]),
+        byte: random.between(0, 1),
     }
 }
 
@@ -159,14 +168,15 @@ pub fn spoil(random: &mut Random, lent: &mut Lent, asked: &mut Asked) {
     let no_node = random.pick(&[0, (lent.n + 1).min(FAR), NODES + 1, FAR]);
     let no_arc = random.pick(&[0, (lent.m + 1).min(FAR), ARCS + 1, FAR]);
     let no_weight = random.pick(&[WEIGHT + 1, FAR]);
+    let no_closure = random.pick(&[2, 3, 255]);
     let no_coordinate = random.pick(&[-COORDINATE - 1, COORDINATE + 1, FAR_EAST, FAR_WEST]);
-    match random.below(14) {
+    match random.below(17) {
         0 => lent.n = no_node,
         1 => lent.m = no_arc,
         2 | 3 => {
             let row = &ROWS[random.below(ROWS.len())];
             let needed = match row.name {
-                "tails" | "heads" | "weights" => lent.m,
+                "tails" | "heads" | "weights" | "closed" => lent.m,
                 "boxes" => 4 * lent.m,
                 _ => lent.n,
             };
@@ -187,10 +197,16 @@ pub fn spoil(random: &mut Random, lent: &mut Lent, asked: &mut Asked) {
                 lent.boxes[end + 1] = (lent.boxes[end] - 1).max(FAR_WEST);
             }
         }
-        11 => asked.s = no_node,
-        12 => asked.t = no_node,
-        _ if random.once_in(2) => asked.arc = no_arc,
-        _ => asked.weight = no_weight,
+        11 => {
+            for _ in 0..random.between(1, 2) {
+                put(random, &mut lent.closed, no_closure);
+            }
+        }
+        12 => asked.s = no_node,
+        13 => asked.t = no_node,
+        14 => asked.arc = no_arc,
+        15 => asked.weight = no_weight,
+        _ => asked.byte = no_closure,
     }
 }
 

@@ -1,6 +1,6 @@
 //! The recorded cases, for comparing a console with a stored output.
 
-use crate::cases::{call_case, long_row, text_case, write_case, Case, ODD_LINES};
+use crate::cases::{call_case, long_row, text_case, update_case, write_case, Case, ODD_LINES};
 use crate::console::LINE_BYTES;
 use crate::hall;
 use crate::random::Random;
@@ -33,8 +33,11 @@ pub fn recorded(seed: u64) -> Case {
         case.files.extend(written.files);
         case.lines.extend(written.lines);
     }
-    for _ in 0..170 {
+    for _ in 0..120 {
         case.lines.extend(call_case(&mut random).lines);
+    }
+    for _ in 0..50 {
+        case.lines.extend(update_case(&mut random).lines);
     }
     for (line, _) in TALKS.iter().flat_map(|talk| exchanges(talk)) {
         case.say(line);
@@ -56,15 +59,16 @@ const BAD_TEXTS: [(&str, &str); 9] = [
     ("few.co", "p aux sp co 4\nv 4 0 0\nc\n"),
 ];
 
-/// Calls on the hall plan, refused one after the other by 0, 5, 2, 8, 9, 10, 11 and 5.
+/// Calls on the hall plan, refused one after the other by 0, 5, 2, 8, 14, 9, 10, 11, 5 and 14.
 #[rustfmt::skip]
-const BAD_ROWS: [&str; 20] = [
+const BAD_ROWS: [&str; 26] = [
     "gr missing.gr",
     "n 0", "build", "n 4",
     "lend route 1 2 3", "search 1 4", "lend route 9 9 9 9",
     "lend weights 3 2 1000001 1 9 4", "search 1 4", "lend weights 3 2 5 1 9 4 4294967295",
+    "lend closed 0 0 0 0 1", "build", "lend closed 0 0 2 0 1 255", "search 1 4", "lend closed 0 0 0 0 0 0 255",
     "lend x 0 10 1000001 -5", "check", "lend x 0 10 10 -5",
     "lend boxes -5 10 0 20 -5 10 1 0 -5 10 5 20 -5 10 0 20 -5 -5 20 20 0 10 0 5", "boxed 1 4",
     "lend boxes -5 10 0 20 -5 10 0 20 -5 10 5 20 -5 10 0 20 -5 -5 20 20 0 10 0 5", "boxed 1 5",
-    "update 7 1", "update 6 1000001", "update 6 1000000",
+    "update 7 1 0", "update 6 1000001 0", "update 6 1000000 2", "update 6 1000000 1",
 ];

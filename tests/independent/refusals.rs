@@ -2,7 +2,7 @@
 
 use std::fmt;
 
-/// A refusal of 01: its number and its values. Number 0 is a file that cannot be read.
+/// A refusal of 01 or 02: its number and its values. Number 0 is a file that cannot be read.
 #[derive(Clone, Debug, PartialEq, Eq)]
 pub struct Refusal {
     pub number: usize,
@@ -14,7 +14,7 @@ pub fn refused<T>(number: usize, values: &[i64]) -> Result<T, Refusal> {
 }
 
 /// The words for each number; `{0}` and `{1}` stand for the first and the second value.
-const WORDS: [&str; 14] = [
+const WORDS: [&str; 15] = [
     "the file cannot be read",
     "the text is over 65536 bytes",
     "a lent row is too short",
@@ -29,6 +29,7 @@ const WORDS: [&str; 14] = [
     "the source, target or arc is not in the network",
     "no walk leads from the source to the target, settled {0}",
     "the box of arc {0} misses node {1}",
+    "the closure of arc {0} is neither 0 nor 1",
 ];
 
 /// The words for refusal 5 outside a text, where no line can be named.

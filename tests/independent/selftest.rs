@@ -1,13 +1,14 @@
-//! The program's own check: 01's worked lines, learners' errors, and 01's claims on random networks.
+//! The program's own check: 01's worked lines, learners' errors, and the claims of 01 and 02 on random networks.
 
 use crate::boxes::{all_s, Rectangle};
-use crate::calls::{boxed, build, check, judge_arcs, search, update};
+use crate::calls::{boxed, build, check, judge_network, search, update};
 use crate::cases::{small, Case};
+use crate::closures;
 use crate::console::{Fault, FAULT_WORDS};
 use crate::files::{listing, rows_for_reading};
 use crate::hall;
 use crate::lent::Lent;
-use crate::network::{labels, lengths, Arc};
+use crate::network::{labels, lengths, open, Arc};
 use crate::plans::{add_surplus, ask, change_boxes, plan, some_bytes};
 use crate::random::Random;
 use crate::record::recorded;
@@ -21,13 +22,13 @@ use crate::writing::{write_co, write_gr};
 use std::collections::BTreeSet;
 
 #[derive(Default)]
-struct Tally {
+pub struct Tally {
     passed: usize,
     failed: usize,
 }
 
 impl Tally {
-    fn expect(&mut self, holds: bool, what: impl AsRef<str>) {
+    pub fn expect(&mut self, holds: bool, what: impl AsRef<str>) {
         if holds {
             self.passed += 1;
         } else {
@@ -48,6 +49,7 @@ pub fn run() -> bool {
     let mut random = Random::new(1);
     for _ in 0..4_000 {
         claims(&mut tally, &mut random);
+        closures::claims(&mut tally, &mut random);
     }
     coverage(&mut tally);
     println!("{} passed, {} failed", tally.passed, tally.failed);
@@ -69,7 +71,7 @@ fn numbers(tally: &mut Tally) {
 
 /// The arcs of a network that is within the limits.
 fn arcs(lent: &Lent) -> Vec<Arc> {
-    judge_arcs(lent, &[]).expect("the network is within the limits")
+    judge_network(lent, &[]).expect("the network is within the limits")
 }
 
 /// 'A hall plan worked through'.
@@ -119,6 +121,7 @@ fn one_tree_per_node(tally: &mut Tally) {
         boxes: [[2, 4, 0, 0], [1, 4, 0, 0], [3, 3, 0, 0], [3, 3, 0, 0], [4, 4, 0, 0]].concat(),
         route: vec![0; 4],
         text: vec![],
+        closed: vec![0; 5],
     };
     tally.expect(boxed(&mut lent, 1, 4) == refused(12, &[2]), "from 1 the way to 4 is lost");
     tally.expect(boxed(&mut lent, 2, 4) == refused(12, &[2]), "from 2 the way to 4 is lost");
@@ -131,7 +134,7 @@ fn one_tree_per_node(tally: &mut Tally) {
 /// Learners' error 2: boxes of a plan wholly west of the origin do not reach it.
 fn wholly_west(tally: &mut Tally) {
     let mut lent = Lent { n: 2, m: 1, tails: vec![1], heads: vec![2], weights: vec![3], ..Lent::default() };
-    (lent.x, lent.y, lent.boxes) = (vec![-9, -7], vec![-5, -5], vec![0; 4]);
+    (lent.x, lent.y, lent.boxes, lent.closed) = (vec![-9, -7], vec![-5, -5], vec![0; 4], vec![0]);
     tally.expect(build(&mut lent).is_ok(), "a plan wholly west is taken");
     tally.expect(lent.boxes == [-7, -7, -5, -5], "its box is wholly west");
 }
@@ -142,7 +145,11 @@ fn claims(tally: &mut Tally, random: &mut Random) {
     let mut lent = plan(random, n, m);
     let texts = (gr_text(random, &lent), co_text(random, &lent));
     let mut read = rows_for_reading();
+    read.closed.fill(7);
     (read.n, read.m) = read_gr(&texts.0, &mut read).unwrap_or((0, 0));
+    let (arcs, rest) = read.closed.split_at(m as usize);
+    tally.expect(arcs.iter().all(|byte| *byte == 0), "reading gives all open");
+    tally.expect(rest.iter().all(|byte| *byte == 7), "the rest of the closures is kept");
     tally.expect(read_co(&texts.1, &mut read).is_ok(), "a plan's texts are accepted");
     tally.expect(read.tails.starts_with(&lent.tails), "tails are read back");
     tally.expect(read.heads.starts_with(&lent.heads), "heads are read back");
@@ -162,7 +169,8 @@ fn claims(tally: &mut Tally, random: &mut Random) {
     let asked = ask(random, &lent);
     let old = lent.boxes.clone();
     if lent.m > 0 {
-        tally.expect(update(&mut lent, asked.arc, asked.weight).is_ok(), "an update is taken");
+        let updated = update(&mut lent, asked.arc, asked.weight, asked.byte);
+        tally.expect(updated.is_ok(), "an update is taken");
         tally.expect(check(&lent).is_ok(), "updated boxes pass check");
         let kept = old.chunks(4).zip(lent.boxes.chunks(4)).all(|(old, new)| {
             let (old, new) = (Rectangle::from_sides(old), Rectangle::from_sides(new));
@@ -255,39 +263,14 @@ fn tight_is_smallest(lent: &Lent) -> bool {
     })
 }
 
-/// Lengths by walks of counted arcs, by Floyd and Warshall and by trying every way without a repeated node.
+/// Lengths by walks of counted arcs and by Floyd and Warshall.
 fn lengths_agree(tally: &mut Tally, lent: &Lent) {
-    let (n, arcs) = (lent.n as usize, arcs(lent));
+    let (n, arcs) = (lent.n as usize, open(&arcs(lent)));
     let d = lengths(n, &arcs);
     for s in 1..=n {
         let labels = labels(n, &arcs, s);
         let lengths: Vec<_> = labels.iter().map(|label| label.map(|(d, _)| d)).collect();
         tally.expect(lengths == d[s], "two ways of computing lengths agree");
-        if n <= 4 {
-            let mut best = vec![None; n + 1];
-            try_every_way(&arcs, s, (0, 0), &mut vec![s], &mut best);
-            tally.expect(best == labels, "lengths and arc counts are the least of all ways");
-        }
-    }
-}
-
-/// Notes the least length and then the fewest arcs of the ways that go on from node u.
-fn try_every_way(
-    arcs: &[Arc],
-    u: usize,
-    way: (i64, usize),
-    passed: &mut Vec<usize>,
-    best: &mut [Option<(i64, usize)>],
-) {
-    if best[u].map_or(true, |known| way < known) {
-        best[u] = Some(way);
-    }
-    for arc in arcs.iter().filter(|arc| arc.tail == u) {
-        if !passed.contains(&arc.head) {
-            passed.push(arc.head);
-            try_every_way(arcs, arc.head, (way.0 + arc.weight, way.1 + 1), passed, best);
-            passed.pop();
-        }
     }
 }
 
@@ -305,6 +288,7 @@ fn searches_agree(tally: &mut Tally, lent: &mut Lent) {
                         at.filter(|at| *at == arc.tail).and(Some(arc.head))
                     });
                     tally.expect(end == Some(t as usize), "the route leads from source to target");
+                    tally.expect(on_route.clone().all(|arc| !arc.closed), "the route uses open arcs only");
                     let length: i64 = on_route.map(|arc| arc.weight).sum();
                     tally.expect(length == plain.length, "the route has the length");
                     tally.expect(boxed.settled <= plain.settled, "boxes settle no more nodes");
@@ -317,11 +301,30 @@ fn searches_agree(tally: &mut Tally, lent: &mut Lent) {
     }
 }
 
+/// Whether a case makes the call where a track is closed.
+fn on_closures(case: &Case, call: &str) -> bool {
+    let mut closed = false;
+    for words in case.lines.iter().map(|line| fields(line)) {
+        match words[..] {
+            [b"fresh"] | [b"gr", ..] => closed = false,
+            [b"lend", b"closed", ref bytes @ ..] => closed = bytes.contains(&&b"1"[..]),
+            [word, ..] if closed && word == call.as_bytes() => return true,
+            _ => (),
+        }
+    }
+    false
+}
+
 /// The recorded cases have every refusal and every fault; the small cases have all but the longest line.
 fn coverage(tally: &mut Tally) {
     let scratch = Scratch::new();
     let mut random = Random::new(2);
     let small: Vec<Case> = (0..1_500).map(|number| small(&mut random, &format!("small{number}"))).collect();
+    for call in ["search", "boxed", "build", "check", "update"] {
+        // One in ten of these, and so 2,000 of those that are compared.
+        let made = small.iter().filter(|case| on_closures(case, call)).count();
+        tally.expect(10 * made >= small.len(), format!("{call} where a track is closed in {made} cases"));
+    }
     for (name, case) in [("recorded", recorded(1)), ("small", Case::together(&small))] {
         scratch.write(&case.files);
         let output = String::from_utf8(scratch.demanded(&case.input())).expect("replies are plain text");
@@ -329,7 +332,7 @@ fn coverage(tally: &mut Tally) {
         let spaced = output.lines().any(|line| line.ends_with(' '));
         tally.expect(!spaced, format!("{name}: no reply ends in a space"));
         let replies: BTreeSet<&str> = output.lines().collect();
-        for refusal in 0..=13 {
+        for refusal in 0..=14 {
             let begin = format!("refused {refusal} ");
             tally.expect(replies.iter().any(|reply| reply.starts_with(&begin)), format!("{name}: {begin}"));
         }

@@ -1,4 +1,4 @@
-//! The limits of 01, 'Sizes'.
+//! The limits of 01, 'Sizes', and the two bytes of request b.
 
 pub const NODES: i64 = 512;
 pub const ARCS: i64 = 2_048;
@@ -20,6 +20,10 @@ pub fn is_node(node: i64, n: i64) -> bool {
 
 pub fn is_weight(weight: i64) -> bool {
     (0..=WEIGHT).contains(&weight)
+}
+
+pub fn is_closure(byte: i64) -> bool {
+    (0..=1).contains(&byte)
 }
 
 pub fn is_coordinate(value: i64) -> bool {

@@ -1,4 +1,4 @@
-//! Talks with the console whose replies are written by hand, by 01's words and definitions.
+//! Talks with the console whose replies are written by hand, by the words and definitions of 01 and 02.
 
 /// The lines of a talk with their replies. A line without `=>` is replied `ok`; `--` begins a remark.
 pub fn exchanges(talk: &str) -> Vec<(&str, &str)> {
@@ -6,7 +6,7 @@ pub fn exchanges(talk: &str) -> Vec<(&str, &str)> {
     said.map(|line| line.split_once(" => ").unwrap_or((line, "ok"))).collect()
 }
 
-pub const TALKS: [&str; 4] = [WORKED, SMALL, AROUND_ZERO, WRITTEN];
+pub const TALKS: [&str; 5] = [WORKED, SMALL, AROUND_ZERO, WRITTEN, CLOSED];
 
 /// 'A hall plan worked through', lent by hand into rows of just the places needed.
 const WORKED: &str = "\
@@ -20,6 +20,7 @@ lend x 0 10 10 -5
 lend y 0 0 5 20
 lend boxes 7 7 7 7 7 7 7 7 7 7 7 7 7 7 7 7 7 7 7 7 7 7 7 7
 lend route 0 0 0 0
+lend closed 0 0 0 0 0 0
 build
 show boxes => boxes -5 10 0 20 -5 10 0 20 -5 10 5 20 -5 10 0 20 -5 -5 20 20 0 10 0 5
 -- Places after the route keep their contents.
@@ -47,7 +48,7 @@ check
 boxed 1 4 => ok 6 2 4 3 4
 -- Arc 5 reweighted to 6.
 build
-update 5 6
+update 5 6 0
 show weights => weights 3 2 5 1 6 4
 show boxes => boxes -5 10 0 20 -5 10 0 20 -5 10 5 20 -5 10 0 20 -5 -5 20 20 0 10 0 5
 search 1 4 => ok 6 1 4 5
@@ -150,7 +151,7 @@ lend weights 1 1 1
 lend boxes 7 7 7 7 7 7 7 7 7 7 7 7
 build
 show boxes 4 => boxes 10 10 0 0
-update 3 5
+update 3 5 0
 show boxes 4 => boxes 10 10 0 10
 check
 -- Error 1: boxes from one tree per node lose the way to 4.
@@ -301,4 +302,142 @@ m 1
 boxed 1 1 => ok 0 0 1
 m 2
 boxed 1 1 => refused 10 2 (the box of arc 2 is not well shaped)
+";
+
+/// Closed tracks, by request b: on the hall plan, on a triangle, and each refusal of an update in its order.
+const CLOSED: &str = "\
+fresh
+gr hall.gr => ok 4 6
+co hall.co
+build
+-- With arc 3 closed 1 to 4 goes by arcs 1, 2 and 4. The boxes still hold all that they must.
+lend closed 0 0 1 0 0 0
+search 1 4 => ok 6 3 4 1 2 4
+boxed 1 4 => ok 6 3 4 1 2 4
+search 1 3 => ok 5 2 3 1 2
+check
+-- A closed arc's tight box is its head alone.
+build
+show boxes 24 => boxes -5 10 0 20 -5 10 0 20 10 10 5 5 -5 10 0 20 -5 -5 20 20 0 10 0 5
+-- With arcs 1, 3 and 5 closed no way leads from 1.
+lend closed 1 0 1 0 1 0
+search 1 4 => refused 12 1 (no walk leads from the source to the target, settled 1)
+boxed 1 4 => refused 12 1 (no walk leads from the source to the target, settled 1)
+search 1 1 => ok 0 0 1
+search 2 1 => ok 7 3 4 2 4 6
+-- An update closes arc 3; the boxes only grow. Another one opens it, with another time.
+lend closed 0 0 0 0 0 0 9
+build
+update 3 5 1
+show weights 6 => weights 3 2 5 1 9 4
+show closed => closed 0 0 1 0 0 0 9
+show boxes 24 => boxes -5 10 0 20 -5 10 0 20 -5 10 5 20 -5 10 0 20 -5 -5 20 20 0 10 0 5
+check
+search 1 4 => ok 6 3 4 1 2 4
+boxed 1 4 => ok 6 3 4 1 2 4
+update 3 4 0
+show weights 6 => weights 3 2 4 1 9 4
+show closed => closed 0 0 0 0 0 0 9
+boxed 1 4 => ok 5 2 4 3 4
+-- Boxes that are right while arc 3 takes 4: arc 1 leads to 2 alone. With arc 3 closed it leads to 3 and 4 too.
+build
+show boxes 8 => boxes 10 10 0 0 -5 10 0 20
+check
+lend closed 0 0 1 0 0 0
+check => refused 13 1 3 (the box of arc 1 misses node 3)
+boxed 1 3 => refused 12 1 (no walk leads from the source to the target, settled 1)
+search 1 3 => ok 5 2 3 1 2
+lend closed 0 0 0 0 0 0
+update 3 4 1
+show boxes 24 => boxes -5 10 0 20 -5 10 0 20 -5 10 5 20 -5 10 0 20 -5 -5 20 20 0 10 0 5
+check
+boxed 1 3 => ok 5 2 3 1 2
+-- Reading gives all open; where it is refused, for a row too short or for the text, nothing changes.
+gr hall.gr => refused 2 (a lent row is too short)
+show closed => closed 0 0 1 0 0 0
+fresh
+gr hall.gr => ok 4 6
+update 1 3 1
+update 2 2 1
+show closed 3 => closed 1 1 0
+gr minus.gr => refused 3 2 (line 2 is not spelt like a line of this kind of file)
+show closed 3 => closed 1 1 0
+gr hall.gr => ok 4 6
+show closed 3 => closed 0 0 0
+-- A triangle: an update that closes arc 3 mends the box of arc 1.
+n 3
+m 3
+lend tails 1 2 1
+lend heads 2 3 3
+lend weights 1 1 1
+lend x 0 10 10
+lend y 0 0 10
+build
+lend closed 0 0 1
+check => refused 13 1 3 (the box of arc 1 misses node 3)
+lend closed 0 0 0
+update 3 1 1
+show boxes 12 => boxes 10 10 0 10 10 10 10 10 10 10 10 10
+show closed => closed 0 0 1
+check
+-- Weight 1,000,000 is an ordinary time.
+n 2
+m 1
+lend weights 1000000
+search 1 2 => ok 1000000 1 2 1
+lend closed 1
+search 1 2 => refused 12 1 (no walk leads from the source to the target, settled 1)
+-- The refusals of an update, one after the other: 5, 2, 8, 14, 9, 10, 11, 5, 14. A closed arc is judged like any other.
+n 513
+m 2
+lend tails 1 3
+lend heads 2 2
+lend weights 1 1000001
+lend closed 1
+lend x 0 1000001
+lend y 0 0
+lend boxes 1 0 0 0 0 0 0 0
+update 3 1000001 2 => refused 5 0 (n, m or the new weight is beyond its limits)
+n 2
+update 3 1000001 2 => refused 2 (a lent row is too short)
+lend closed 2 255
+update 3 1000001 2 => refused 8 2 (arc 2 has a bad node or weight)
+lend tails 1 1
+update 3 1000001 2 => refused 8 2 (arc 2 has a bad node or weight)
+lend weights 1 1
+update 3 1000001 2 => refused 14 1 (the closure of arc 1 is neither 0 nor 1)
+lend closed 0 255
+update 3 1000001 2 => refused 14 2 (the closure of arc 2 is neither 0 nor 1)
+lend closed 0 1
+update 3 1000001 2 => refused 9 2 (node 2 has a bad coordinate)
+lend x 0 10
+update 3 1000001 2 => refused 10 1 (the box of arc 1 is not well shaped)
+lend boxes 0 0 0 0 0 0 0 0
+update 3 1000001 2 => refused 11 (the source, target or arc is not in the network)
+update 1 1000001 2 => refused 5 0 (n, m or the new weight is beyond its limits)
+update 1 1000000 2 => refused 14 1 (the closure of arc 1 is neither 0 nor 1)
+update 1 1000000 255 => refused 14 1 (the closure of arc 1 is neither 0 nor 1)
+update 1 1000000 256 => ? a number is too small or too large for its place
+update 1 1000000 => ? a wrong count of words for this command
+show weights => weights 1 1
+show closed => closed 0 1
+show boxes => boxes 0 0 0 0 0 0 0 0
+update 1 1000000 1
+show weights => weights 1000000 1
+show closed => closed 1 1
+show boxes => boxes 0 10 0 0 0 10 0 0
+-- Every call on a network is lent a byte for each arc; the writers are lent none.
+lend closed 1
+search 1 2 => refused 2 (a lent row is too short)
+boxed 1 2 => refused 2 (a lent row is too short)
+build => refused 2 (a lent row is too short)
+check => refused 2 (a lent row is too short)
+update 1 1 0 => refused 2 (a lent row is too short)
+write gr => ok 31
+lend closed 0 2
+search 0 0 => refused 14 2 (the closure of arc 2 is neither 0 nor 1)
+boxed 0 0 => refused 14 2 (the closure of arc 2 is neither 0 nor 1)
+build => refused 14 2 (the closure of arc 2 is neither 0 nor 1)
+check => refused 14 2 (the closure of arc 2 is neither 0 nor 1)
+write gr => ok 31
 ";

@@ -83,9 +83,9 @@ fn judge_sizes(text: &[u8], rows: &[&Vec<i64>], places: i64) -> Result<(), Refus
     Ok(())
 }
 
-/// Reads a .gr text into tails, heads and weights; returns n and m.
+/// Reads a .gr text into tails, heads and weights, all arcs open; returns n and m.
 pub fn read_gr(text: &[u8], lent: &mut Lent) -> Result<(i64, i64), Refusal> {
-    judge_sizes(text, &[&lent.tails, &lent.heads, &lent.weights], ARCS)?;
+    judge_sizes(text, &[&lent.tails, &lent.heads, &lent.weights, &lent.closed], ARCS)?;
     let mut counts = None;
     let mut arcs: Vec<(i64, i64, i64)> = Vec::new();
     let mut at = 1;
@@ -123,6 +123,7 @@ pub fn read_gr(text: &[u8], lent: &mut Lent) -> Result<(i64, i64), Refusal> {
             fill(&mut lent.tails, arcs.iter().map(|arc| arc.0));
             fill(&mut lent.heads, arcs.iter().map(|arc| arc.1));
             fill(&mut lent.weights, arcs.iter().map(|arc| arc.2));
+            fill(&mut lent.closed, arcs.iter().map(|_| 0));
             Ok((n, m))
         }
         _ => refused(6, &[at]),

@@ -44,21 +44,21 @@ module _ (bytes : List ℕ) {file : File} where
   co-none e = rw e co-unread
 
   module _ {k : ℕ} (e : file ≡ Bytes k) where
-    pub graph-read : {n m : ℕ} {tails heads weights : List ℕ}
-        → GrPromise (take k bytes) arcRow arcRow arcRow (graph.Read n m) tails heads weights → true ≡ isGraph (heldIn bytes file)
+    pub graph-read : {n m : ℕ} {tails heads weights closures : List ℕ}
+        → GrPromise (take k bytes) arcRow arcRow arcRow arcRow (graph.Read n m) tails heads weights closures → true ≡ isGraph (heldIn bytes file)
     graph-read p = rw e (read-told _ _ _ (p .reply))
 
-    pub graph-refused : {r : Refusal} {tails heads weights : List ℕ}
-        → GrPromise (take k bytes) arcRow arcRow arcRow (graph.Refused r) tails heads weights → false ≡ isGraph (heldIn bytes file)
+    pub graph-refused : {r : Refusal} {tails heads weights closures : List ℕ}
+        → GrPromise (take k bytes) arcRow arcRow arcRow arcRow (graph.Refused r) tails heads weights closures → false ≡ isGraph (heldIn bytes file)
     graph-refused {r} p = rw e (refused-told _ r (p .reply))
 
-    pub gr-said : {co : Held} {r : Refusal} {tails heads weights : List ℕ}
-        → GrPromise (take k bytes) arcRow arcRow arcRow (graph.Refused r) tails heads weights → Prints (heldIn bytes file) co (placeLine r)
+    pub gr-said : {co : Held} {r : Refusal} {tails heads weights closures : List ℕ}
+        → GrPromise (take k bytes) arcRow arcRow arcRow arcRow (graph.Refused r) tails heads weights closures → Prints (heldIn bytes file) co (placeLine r)
     gr-said p = rw e (gr-refused p)
 
-    pub gr-on : {co : Held} {n m : ℕ} {tails heads weights printed : List ℕ}
-        → GrPromise (take k bytes) arcRow arcRow arcRow (graph.Read n m) tails heads weights
-        → PrintsPlaced n m (rows tails heads weights) co printed → Prints (heldIn bytes file) co printed
+    pub gr-on : {co : Held} {n m : ℕ} {tails heads weights closures printed : List ℕ}
+        → GrPromise (take k bytes) arcRow arcRow arcRow arcRow (graph.Read n m) tails heads weights closures
+        → PrintsPlaced n m (rows tails heads weights closures) co printed → Prints (heldIn bytes file) co printed
     gr-on p s = rw e (gr-read p s)
 
     module _ {n m : ℕ} {R : Rows} {x y : List ℤ} where
@@ -66,5 +66,5 @@ module _ (bytes : List ℕ) {file : File} where
       co-said p = rw e (co-refused p)
 
       pub co-built : {boxes : List ℤ} (answer : Judged) → CoPromise (take k bytes) n nodeRow nodeRow places.Read x y
-          → BuildSays n m R x y boxRow (judgedReply answer) boxes → PrintsPlaced n m R (heldIn bytes file) (builtText m R boxes answer)
+          → BuildSays n m R x y boxRow (judgedReply answer) boxes → PrintsPlaced n m R (heldIn bytes file) (builtText m (R .tails) (R .heads) (R .weights) boxes answer)
       co-built answer p s = rw e (built answer p s)

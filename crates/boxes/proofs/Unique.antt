@@ -33,20 +33,20 @@ placed-unique (built answer p s) (built answer′ p′ s′) =
 pub prints-unique : {gr co : Held} {printed printed′ : List ℕ} → Prints gr co printed → Prints gr co printed′ → printed ≡ printed′
 prints-unique gr-unread gr-unread = refl
 prints-unique (gr-refused {r = r} p) (gr-refused {r = r′} p′) =
-    let read = read-gr-unique _ _ _ _ _ _ _ _ _ _ _ _ p p′ .0 in
+    let read = read-gr-unique _ _ _ _ _ _ _ _ _ _ _ _ _ _ _ p p′ .0 in
     let same : r ≡ r′ = cc in
     ap placeLine same
 prints-unique (gr-refused p) (gr-read p′ s) =
-    let read = read-gr-unique _ _ _ _ _ _ _ _ _ _ _ _ p p′ .0 in
+    let read = read-gr-unique _ _ _ _ _ _ _ _ _ _ _ _ _ _ _ p p′ .0 in
     let z : _≡_ {A = ℕ} 0 1 = cc in
     absurd (omega arith)
 prints-unique (gr-read p s) (gr-refused p′) =
-    let read = read-gr-unique _ _ _ _ _ _ _ _ _ _ _ _ p p′ .0 in
+    let read = read-gr-unique _ _ _ _ _ _ _ _ _ _ _ _ _ _ _ p p′ .0 in
     let z : _≡_ {A = ℕ} 0 1 = cc in
     absurd (omega arith)
 prints-unique (gr-read {n = n} {m = m} p s) (gr-read {n = n′} {m = m′} p′ s′) =
-    let read = read-gr-unique _ _ _ _ _ _ _ _ _ _ _ _ p p′ in
+    let read = read-gr-unique _ _ _ _ _ _ _ _ _ _ _ _ _ _ _ p p′ in
     let sizes = read .0 in
     let nodes : n ≡ n′ = cc in
     let arcs : m ≡ m′ = cc in
-    placed-unique (rw (nodes, arcs, read .1, read .2, read .3) at s) s′
+    placed-unique (rw (nodes, arcs, read .1, read .2, read .3, read .4) at s) s′

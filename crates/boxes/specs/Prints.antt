@@ -25,9 +25,9 @@ unfoldable pub unreadLine : List ℕ
 unreadLine = bytes "refused 0 0\n"
 
 -- build's answer: one line per arc, or why it was refused
-unfoldable pub builtText : ℕ → Rows → List ℤ → Judged → List ℕ
-builtText m R boxes Fine = listing (R .tails) (R .heads) (R .weights) boxes m
-builtText m R boxes (Refused r) = placeLine r
+unfoldable pub builtText : ℕ → List ℕ → List ℕ → List ℕ → List ℤ → Judged → List ℕ
+builtText m tails heads weights boxes Fine = listing tails heads weights boxes m
+builtText m tails heads weights boxes (Refused r) = placeLine r
 
 -- the rows that are lent hold zeros
 abbrev pub arcRow : List ℕ
@@ -46,7 +46,7 @@ isRead (refused r) = false
 
 abbrev pub isGraph : Held → Bool
 isGraph unread = false
-isGraph (text held) = isRead (readGr held arcRow arcRow arcRow)
+isGraph (text held) = isRead (readGr held arcRow arcRow arcRow arcRow)
 
 -- after a graph of n nodes and m arcs was read: `net.co` is judged, then the boxes are built
 pub data PrintsPlaced (n m : ℕ) (R : Rows) : Held → List ℕ → Type 0 where
@@ -57,15 +57,15 @@ pub data PrintsPlaced (n m : ℕ) (R : Rows) : Held → List ℕ → Type 0 wher
   built : {held : List ℕ} {x y boxes : List ℤ} (answer : Judged)
       → CoPromise held n nodeRow nodeRow places.Read x y
       → BuildSays n m R x y boxRow (judgedReply answer) boxes
-      → PrintsPlaced n m R (text held) (builtText m R boxes answer)
+      → PrintsPlaced n m R (text held) (builtText m (R .tails) (R .heads) (R .weights) boxes answer)
 
 -- `net.gr` is opened and judged before `net.co`
 pub data Prints : Held → Held → List ℕ → Type 0 where
   gr-unread : {co : Held} → Prints unread co unreadLine
-  gr-refused : {held : List ℕ} {co : Held} {r : Refusal} {tails heads weights : List ℕ}
-      → GrPromise held arcRow arcRow arcRow (graph.Refused r) tails heads weights
+  gr-refused : {held : List ℕ} {co : Held} {r : Refusal} {tails heads weights closures : List ℕ}
+      → GrPromise held arcRow arcRow arcRow arcRow (graph.Refused r) tails heads weights closures
       → Prints (text held) co (placeLine r)
-  gr-read : {held : List ℕ} {co : Held} {n m : ℕ} {tails heads weights printed : List ℕ}
-      → GrPromise held arcRow arcRow arcRow (graph.Read n m) tails heads weights
-      → PrintsPlaced n m (rows tails heads weights) co printed
+  gr-read : {held : List ℕ} {co : Held} {n m : ℕ} {tails heads weights closures printed : List ℕ}
+      → GrPromise held arcRow arcRow arcRow arcRow (graph.Read n m) tails heads weights closures
+      → PrintsPlaced n m (rows tails heads weights closures) co printed
       → Prints (text held) co printed

@@ -36,7 +36,7 @@ fn put_built(
     boxes: &[i32; 8192],
 ) -> usize
     requires { ⌜ m ≤ 2048 ⌝ }
-    ensures { λ r. ⌜ Puts (builtText m (rows (now (tails .entry)) (now (heads .entry)) (now (weights .entry))) (now (boxes .entry)) answer) 0 (now (page .entry)) r (now (page .exit)) ⌝ }
+    ensures { λ r. ⌜ Puts (builtText m (now (tails .entry)) (now (heads .entry)) (now (weights .entry)) (now (boxes .entry)) answer) 0 (now (page .entry)) r (now (page .exit)) ⌝ }
     ensures { λ r. ⌜ r ≤ 368640 ⌝ }
 {
     match answer {
@@ -57,11 +57,12 @@ fn list_with_places(
     tails: &[u32; 2048],
     heads: &[u32; 2048],
     weights: &[u32; 2048],
+    closures: &[u8; 2048],
     co: &[u8],
     places: File,
 ) -> usize
     requires { ⌜ (m ≤ 2048) × Within (length (now co)) places ⌝ }
-    ensures { λ r. ⌜ Printed (PrintsPlaced n m (rows (now (tails .entry)) (now (heads .entry)) (now (weights .entry))) (heldIn (now (co .entry)) places)) (now (page .entry)) r (now (page .exit)) ⌝ }
+    ensures { λ r. ⌜ Printed (PrintsPlaced n m (rows (now (tails .entry)) (now (heads .entry)) (now (weights .entry)) (now (closures .entry))) (heldIn (now (co .entry)) places)) (now (page .entry)) r (now (page .exit)) ⌝ }
     ensures { λ r. ⌜ r ≤ 368640 ⌝ }
 {
     let File::Bytes(k) = places else {
@@ -72,7 +73,7 @@ fn list_with_places(
     let reply = dimacs::read_co(&co[..k], n, &mut x, &mut y);
     let CoReply::Refused(r) = reply else {
         let mut boxes = [0i32; 8192];
-        let answer = boxwork::build(n, m, tails, heads, weights, &x, &y, &mut boxes);
+        let answer = boxwork::build(n, m, tails, heads, weights, closures, &x, &y, &mut boxes);
         return put_built(page, answer, m, tails, heads, weights, &boxes);
     };
     put_place(page, 0, r)
@@ -90,10 +91,17 @@ fn list(page: &mut [u8; PAGE], gr: &[u8], graph: File, co: &[u8], places: File) 
     let mut tails = [0u32; 2048];
     let mut heads = [0u32; 2048];
     let mut weights = [0u32; 2048];
-    let reply = dimacs::read_gr(&gr[..k], &mut tails, &mut heads, &mut weights);
+    let mut closures = [0u8; 2048];
+    let reply = dimacs::read_gr(
+        &gr[..k],
+        &mut tails,
+        &mut heads,
+        &mut weights,
+        &mut closures,
+    );
     match reply {
         GrReply::Read(n, m) => {
-            return list_with_places(page, n, m, &tails, &heads, &weights, co, places);
+            return list_with_places(page, n, m, &tails, &heads, &weights, &closures, co, places);
         }
         GrReply::Refused(why) => {
             return put_place(page, 0, why);
@@ -112,7 +120,14 @@ fn is_graph(gr: &[u8], graph: File) -> bool
     let mut tails = [0u32; 2048];
     let mut heads = [0u32; 2048];
     let mut weights = [0u32; 2048];
-    let reply = dimacs::read_gr(&gr[..k], &mut tails, &mut heads, &mut weights);
+    let mut closures = [0u8; 2048];
+    let reply = dimacs::read_gr(
+        &gr[..k],
+        &mut tails,
+        &mut heads,
+        &mut weights,
+        &mut closures,
+    );
     let GrReply::Read(_n, _m) = reply else {
         return false;
     };

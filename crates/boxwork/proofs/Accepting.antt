@@ -5,17 +5,18 @@ use mathlib.Core.List.{List, []}
 use lib.IntN.{ℤ}
 use Rattle.rules.specs.Paper.{Reply, accepted, refusal}
 use Rattle.rules.proofs.PaperLaws.{refusal-nonzero}
+use Rattle.rules.specs.declared.Judged.{Judged}
 use Rattle.rules.specs.declared.Judged.the-variants.{Fine}
 use Rattle.rules.specs.declared.Refusal.{Refusal}
 use Rattle.rules.specs.declared.Refusal.the-variants.{BoxMisses}
-use Rattle.walks.specs.Rows.{Rows, network}
+use Rattle.walks.specs.Walk.{Net}
+use Rattle.walks.specs.Rows.{Rows, laid, network}
 use Rattle.walks.specs.Through.{InS, Consistent}
 use Rattle.geometry.specs.Box.{Within}
 use Rattle.geometry.specs.Row.{coordinate}
 use Rattle.drawing.specs.Drawn.{Drawn, boxRow}
 use Rattle.boxwork.specs.Tight.{Tight, Updated, HoldsNode}
-use Rattle.judging.specs.Order.{buildJudged, checkJudged, updateJudged}
-use Rattle.boxwork.specs.Says.{BuildSays, CheckSays, UpdateSays, reweighted}
+use Rattle.boxwork.specs.Says.{Builds, Checks, Updates, CheckSays}
 use Rattle.judging.proofs.StageLaws.{BoxesLent as Lent, Shaped, lent-after}
 use Rattle.judging.proofs.FineLaws.{shaped-judged}
 use Rattle.boxwork.proofs.TightLaws.{inS-range, tight-holds, tight-shaped, updated-holds, updated-shaped}
@@ -25,27 +26,27 @@ use Rattle.boxwork.proofs.TightLaws.{inS-range, tight-holds, tight-shap
 refusal-other : (r : Refusal) {results : List ℕ} → refusal r ≡ accepted results → ⊥
 refusal-other r e = refusal-nonzero r (ap (λ (z : Reply). z .number) (sym e))
 
-module _ {n m : ℕ} {R : Rows} {x y boxes : List ℤ} where
-  pub check-accepts : {reply : Reply} → CheckSays n m R x y boxes reply → reply ≡ accepted [] → (checkJudged n m R x y boxes ≡ Fine) × Consistent (network m R) (HoldsNode x y boxes)
-  check-accepts (CheckSays.refused {r = r} e) p = absurd (refusal-other r p)
-  check-accepts (CheckSays.consistent f c) p = (f, c)
-  check-accepts (CheckSays.missed {e = e} {t = t} f d) p = absurd (refusal-other (BoxMisses e t) p)
+module _ {judged : Judged} {N : Net} {x y boxes : List ℤ} where
+  pub check-accepts : {reply : Reply} → Checks judged N x y boxes reply → reply ≡ accepted [] → (judged ≡ Fine) × Consistent N (HoldsNode x y boxes)
+  check-accepts (Checks.refused {r = r} e) p = absurd (refusal-other r p)
+  check-accepts (Checks.consistent f c) p = (f, c)
+  check-accepts (Checks.missed {e = e} {t = t} f d) p = absurd (refusal-other (BoxMisses e t) p)
 
-  pub build-accepts : {reply : Reply} {after : List ℤ} → BuildSays n m R x y boxes reply after → reply ≡ accepted []
-      → (buildJudged n m R x y boxes ≡ Fine) × Drawn boxRow m (λ e old new. Tight (network m R) x y e new) boxes after
-  build-accepts (BuildSays.refused {r = r} e) p = absurd (refusal-other r p)
-  build-accepts (BuildSays.built f d) p = (f, d)
+  pub build-accepts : {m : ℕ} {reply : Reply} {after : List ℤ} → Builds judged N m x y boxes reply after → reply ≡ accepted []
+      → (judged ≡ Fine) × Drawn boxRow m (λ e old new. Tight N x y e new) boxes after
+  build-accepts (Builds.refused {r = r} e) p = absurd (refusal-other r p)
+  build-accepts (Builds.built f d) p = (f, d)
 
-  pub update-accepts : {arc weight : ℕ} {reply : Reply} {weights : List ℕ} {after : List ℤ} → UpdateSays n m R x y boxes arc weight reply weights after → reply ≡ accepted []
-      → (updateJudged n m R x y boxes arc weight ≡ Fine) × (weights ≡ reweighted R arc weight .weights) × Drawn boxRow m (Updated (network m (reweighted R arc weight)) x y) boxes after
-  update-accepts (UpdateSays.refused {r = r} e) p = absurd (refusal-other r p)
-  update-accepts (UpdateSays.updated f d) p = (f, refl, d)
+  pub update-accepts : {R R′ left : Rows} {m : ℕ} {reply : Reply} {after : List ℤ} → Updates judged R R′ N m x y boxes reply left after → reply ≡ accepted []
+      → (judged ≡ Fine) × (left ≡ R′) × Drawn boxRow m (Updated N x y) boxes after
+  update-accepts (Updates.refused {r = r} e) p = absurd (refusal-other r p)
+  update-accepts (Updates.updated f d) p = (f, refl, d)
 
 -- ---- What is left by a build, and by an update
 
 module _ {n m : ℕ} {R : Rows} {x y boxes : List ℤ} (l : Lent n m R x y boxes) where
   head-within : (e : ℕ) → 1 ≤ e → e ≤ m → Within (coordinate x (network m R .head e)) × Within (coordinate y (network m R .head e))
-  unfolding network
+  unfolding laid network
   head-within e low high = let a = l .sound .arcs e low high in l .places _ (a .head-low) (a .head-high)
 
   nodes-within : (e t : ℕ) → InS (network m R) e t → Within (coordinate x t) × Within (coordinate y t)
@@ -53,12 +54,12 @@ module _ {n m : ℕ} {R : Rows} {x y boxes : List ℤ} (l : Lent n m R x y boxes
 
   pub tight-accepted : {after : List ℤ} → Drawn boxRow m (λ e old new. Tight (network m R) x y e new) boxes after → CheckSays n m R x y after (accepted [])
   tight-accepted {after} d =
-      CheckSays.consistent
+      Checks.consistent
       (shaped-judged n m R x y after (lent-after (d .long) l) (λ e low high. tight-shaped (head-within e low high) (nodes-within e) (d .entries e low high)))
       (record { keeps = λ e t i. let r = inS-range (l .sound) i in tight-holds (d .entries e (r .0) (r .1)) i })
 
   pub updated-accepted : {after : List ℤ} → Shaped m boxes → Drawn boxRow m (Updated (network m R) x y) boxes after → CheckSays n m R x y after (accepted [])
   updated-accepted {after} shaped d =
-      CheckSays.consistent
+      Checks.consistent
       (shaped-judged n m R x y after (lent-after (d .long) l) (λ e low high. updated-shaped (head-within e low high) (nodes-within e) (shaped e low high) (d .entries e low high)))
       (record { keeps = λ e t i. let r = inS-range (l .sound) i in updated-holds (d .entries e (r .0) (r .1)) i })

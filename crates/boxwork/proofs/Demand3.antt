@@ -10,9 +10,9 @@ use Rattle.walks.specs.Rows.{Rows, network}
 use Rattle.walks.proofs.ThroughLaws.{inS-begins, begins-inS}
 use Rattle.walks.proofs.Pruning.{pruning}
 use Rattle.search.specs.Says.{Says, refused, answered, holding}
-use Rattle.boxwork.specs.Says.{CheckSays}
+use Rattle.boxwork.specs.Says.{Checks}
 use Rattle.judging.proofs.FineLaws.{build-fine, check-fine, update-fine, judged-alike, room-alike}
-use Rattle.boxwork.proofs.ReweightedLaws.{lent-reweighted}
+use Rattle.boxwork.proofs.ChangedLaws.{lent-changed}
 use Rattle.boxwork.specs.Demand3.{CheckExactly, AfterYes, NoRouteExactly, BuildYes, UpdateYes}
 use Rattle.boxwork.proofs.Agreeing.{says-agree, answers-none}
 use Rattle.boxwork.proofs.Accepting.{check-accepts, build-accepts, update-accepts, tight-accepted, updated-accepted}
@@ -21,7 +21,7 @@ module _ (n m : ℕ) (R : Rows) (x y boxes : List ℤ) where
   pub check-exactly : CheckExactly n m R x y boxes
   check-exactly = (
     (λ c. let h = check-accepts c refl in (h .0, record { holds = λ e t b. h .1 .keeps e t (begins-inS b) })),
-    (λ h. CheckSays.consistent (h .0) (record { keeps = λ e t i. h .1 .holds e t (inS-begins i) })),
+    (λ h. Checks.consistent (h .0) (record { keeps = λ e t i. h .1 .holds e t (inS-begins i) })),
   )
 
   pub after-yes : AfterYes n m R x y boxes
@@ -38,9 +38,9 @@ module _ (n m : ℕ) (R : Rows) (x y boxes : List ℤ) where
   build-yes before b = let h = build-accepts b refl in tight-accepted (build-fine n m R x y _ (h .0)) (h .1)
 
   pub update-yes : UpdateYes n m R x y boxes
-  update-yes before arc weight weights u =
+  update-yes before arc weight closure R′ u =
       let h = update-accepts u refl in
-      let f = update-fine n m R x y _ _ _ (h .0) in
+      let f = update-fine n m R x y _ _ _ _ (h .0) in
       let k = check-fine n m R x y _ (f .0) in
       let l = build-fine n m R x y _ (k .0) in
-      rw (h .1) (updated-accepted (lent-reweighted (l .sound) _ _ (f .1) (f .2) (f .3) l) (k .1) (h .2))
+      rw (h .1) (updated-accepted (lent-changed (l .sound) _ _ _ (f .1) (f .2) (f .3) (f .4) l) (k .1) (h .2))

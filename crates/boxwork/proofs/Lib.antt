@@ -1,8 +1,10 @@
-pub mod ReweightedLaws
+pub mod ChangedLaws
 pub mod TightLaws
 pub mod SaysLaws
 pub mod Meaning
 pub mod Agreeing
 pub mod Accepting
 pub mod Demand3
+pub mod Closing
+pub mod AllOpen
 pub mod Surplus

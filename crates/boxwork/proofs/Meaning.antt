@@ -10,7 +10,7 @@ use borrow.Author.Tests.{not-true}
 use lib.IntN.{ℤ}
 use Rattle.rules.specs.Paper.{accepted}
 use Rattle.rules.specs.declared.Judged.the-variants.{Fine}
-use Rattle.walks.specs.Rows.{Rows, rows, Sound, at, network}
+use Rattle.walks.specs.Rows.{Rows, Sound, at, laid, network}
 use Rattle.walks.specs.Through.{InS, Consistent}
 use Rattle.walks.specs.Checking.{Misses, FirstMissed}
 use Rattle.settling.proofs.Choice.{either}
@@ -29,9 +29,9 @@ use Rattle.drawing.specs.Missed.{missesNode, Lowest}
 use Rattle.drawing.proofs.GrownLaws.{Led, grown-by}
 use Rattle.drawing.proofs.DrawnLaws.{drawn-then}
 use Rattle.judging.specs.Order.{updateJudged}
-use Rattle.boxwork.specs.Says.{UpdateSays, reweighted}
+use Rattle.boxwork.specs.Says.{Updates, UpdateSays, changed}
 use Rattle.judging.proofs.FineLaws.{build-fine, check-fine, update-fine}
-use Rattle.boxwork.proofs.ReweightedLaws.{sound-reweighted}
+use Rattle.boxwork.proofs.ChangedLaws.{sound-changed}
 use Rattle.boxwork.proofs.TightLaws.{inS-range}
 use Rattle.boxwork.specs.Tight.{PlaceOfS, Tight, Updated, HoldsNode}
 
@@ -77,12 +77,12 @@ module _ {n m : ℕ} {R : Rows} (sound : Sound n m R) where
     led-same s = smallest-same (λ px py. ⊎-elim inl (λ h. inr (led-place h))) (λ px py. ⊎-elim inl (λ h. inr (place-led h))) s
 
     pub tight-made : Tight (network m R) x y e (grownBy (λ t. leadsTo R n m t e) x y n (headBox (R .heads) x y e))
-    unfolding network
+    unfolding laid network
     tight-made = record { smallest = led-same (grown-by _ x y (place-upright _ _) (place-smallest _ _) n .1) }
 
     pub updated-made : {old : Box} → Upright old
         → Updated (network m R) x y e old (grownBy (λ t. leadsTo R n m t e) x y n (grown old (coordinate x (at (R .heads) e)) (coordinate y (at (R .heads) e))))
-    unfolding network
+    unfolding laid network
     updated-made {old} upright =
         let made = grown-by (λ t. leadsTo R n m t e) x y (grown-upright _ _ upright) (grown-smallest _ _ upright (smallest-self old)) n .1 in
         record {
@@ -138,13 +138,13 @@ module _ {n m : ℕ} {R : Rows} (sound : Sound n m R) where
     pub missed-none : ((t e : ℕ) → 1 ≤ t → t ≤ n → 1 ≤ e → e ≤ m → missesNode R n m boxes x y t e ≡ false) → Consistent (network m R) (HoldsNode x y boxes)
     missed-none h = record { keeps = λ e t i. let r = inS-range sound i in missed-no t e (h t e (r .2) (r .3) (r .0) (r .1)) i }
 
--- an update that was judged fine, wrote the weight, and grew the boxes
-pub updated-says : {n m : ℕ} {R : Rows} {x y before mid after : List ℤ} {arc weight : ℕ} {weights : List ℕ}
-    → updateJudged n m R x y before arc weight ≡ Fine → weights ≡ reweighted R arc weight .weights
-    → Drawn boxRow m (FromHead false (R .heads) x y) before mid → Drawn boxRow m (GrownAll (leadsTo (rows (R .tails) (R .heads) weights) n m) x y n) mid after
-    → UpdateSays n m R x y before arc weight (accepted []) weights after
-updated-says {n} {m} {R} {x} {y} {before} {arc = arc} {weight = weight} fine wrote heads all =
-    let u = update-fine n m R x y before arc weight fine in
+-- an update that was judged fine, wrote weight and closure, and grew the boxes
+pub updated-says : (n : ℕ) {m : ℕ} (R : Rows) {R′ : Rows} {x y before mid after : List ℤ} (arc weight closure : ℕ)
+    → updateJudged n m R x y before arc weight closure ≡ Fine → R′ ≡ changed R arc weight closure
+    → Drawn boxRow m (FromHead false (R .heads) x y) before mid → Drawn boxRow m (GrownAll (leadsTo R′ n m) x y n) mid after
+    → UpdateSays n m R x y before arc weight closure (accepted []) R′ after
+updated-says n {m} R {x = x} {y = y} {before = before} arc weight closure fine wrote heads all =
+    let u = update-fine n m R x y before arc weight closure fine in
     let k = check-fine n m R x y before (u .0) in
-    let sound = sound-reweighted (build-fine n m R x y before (k .0) .sound) arc weight (u .1) (u .2) (u .3) in
-    rw wrote (UpdateSays.updated fine (updated-by sound x y (rw wrote at all) (λ e low high. k .1 e low high .upright) heads))
+    let sound = sound-changed (build-fine n m R x y before (k .0) .sound) arc weight closure (u .1) (u .2) (u .3) in
+    rw wrote (Updates.updated fine (updated-by sound x y (rw wrote at all) (λ e low high. k .1 e low high .upright) heads))

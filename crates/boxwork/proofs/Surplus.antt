@@ -1,6 +1,6 @@
 -- Surplus is neither read nor written: build, check and update are those over the rows cut to the places that are needed, and the
 -- places beyond keep their contents.
-use Prim.Native.Nat.{ℕ, zero, suc, _+_, _-_, _*_, _≤_, min}
+use Prim.Native.Nat.{ℕ, zero, suc, _+_, _-_, _*_, _<_, _≤_, min}
 use mathlib.Core.Path.{_≡_, refl, sym, ap, _∙_, subst}
 use mathlib.Core.Logic.{inl, inr, ⊎-elim}
 use mathlib.Core.List.{List, [], _∷_}
@@ -9,7 +9,7 @@ use lib.IntN.{ℤ, pos}
 use lib.ListN.{length, take, drop, length-take, length-drop}
 use lib.Seq.{getD-drop, ext-getD, take-set-lt, drop-set-lt}
 use Rattle.rules.specs.Paper.{Reply}
-use Rattle.walks.specs.Rows.{Rows, Sound, network}
+use Rattle.walks.specs.Rows.{Rows, Sound, laid, network}
 use Rattle.walks.specs.Through.{InS}
 use Rattle.walks.specs.Checking.{Misses}
 use Rattle.geometry.specs.Box.{Box}
@@ -17,14 +17,14 @@ use Rattle.geometry.specs.Row.{number, boxOf}
 use Rattle.geometry.proofs.SmallestLaws.{smallest-same}
 use Rattle.search.proofs.Alike.{other-way, inS-alike}
 use Rattle.judging.specs.Cut.{cut}
-use Rattle.judging.proofs.CutLaws.{place-cut, box-cut, build-judged-cut, check-judged-cut, update-judged-cut}
+use Rattle.judging.proofs.CutLaws.{at-cut, place-cut, box-cut, build-judged-cut, check-judged-cut, update-judged-cut}
 use Rattle.search.proofs.Cut.{network-cut}
 use Rattle.drawing.specs.Drawn.{Drawn, boxRow}
 use Rattle.boxwork.specs.Tight.{PlaceOf, Tight, Updated, HoldsNode}
 use Rattle.boxwork.proofs.TightLaws.{inS-range}
 use Rattle.judging.proofs.FineLaws.{build-fine, check-fine, update-fine}
-use Rattle.boxwork.proofs.ReweightedLaws.{sound-reweighted}
-use Rattle.boxwork.specs.Says.{BuildSays, CheckSays, UpdateSays, reweighted}
+use Rattle.boxwork.proofs.ChangedLaws.{sound-changed}
+use Rattle.boxwork.specs.Says.{Builds, Checks, Updates, BuildSays, CheckSays, UpdateSays, changed}
 use Rattle.boxwork.proofs.SaysLaws.{build-unique, check-unique, update-unique}
 
 -- ---- The row of boxes
@@ -69,15 +69,15 @@ module _ {n m : ℕ} {R : Rows} (sound : Sound n m R) (x y : List ℤ) where
 
   module _ (e : ℕ) (low : 1 ≤ e) (high : e ≤ m) where
     head-same : network m R .head e ≡ network m (cut m R) .head e
-    unfolding network
-    head-same = network-cut m R .head e (low, high)
+    unfolding laid network
+    head-same = sym (at-cut m (R .heads) e low high)
 
     head-low : 1 ≤ network m R .head e
-    unfolding network
+    unfolding laid network
     head-low = sound .arcs e low high .head-low
 
     head-high : network m R .head e ≤ n
-    unfolding network
+    unfolding laid network
     head-high = sound .arcs e low high .head-high
 
     pub tight-cut : {b : Box} → Tight (network m R) x y e b → Tight (network m (cut m R)) (take n x) (take n y) e b
@@ -110,41 +110,58 @@ module _ {n m : ℕ} {R : Rows} (sound : Sound n m R) (x y : List ℤ) where
 
 -- ---- The laws
 
-module _ {n m : ℕ} {R : Rows} {x y boxes : List ℤ} where
+-- the places of the arc rows beyond m
+pub record SameRest (m : ℕ) (R S : Rows) : Type 0 where
+  pub tails : drop m (R .tails) ≡ drop m (S .tails)
+  pub heads : drop m (R .heads) ≡ drop m (S .heads)
+  pub weights : drop m (R .weights) ≡ drop m (S .weights)
+  pub closures : drop m (R .closures) ≡ drop m (S .closures)
+
+module _ (n m : ℕ) (R : Rows) (x y boxes : List ℤ) where
   pub build-cut : {reply : Reply} {after : List ℤ} → BuildSays n m R x y boxes reply after
       → BuildSays n m (cut m R) (take n x) (take n y) (take (4 * m) boxes) reply (take (4 * m) after) × (drop (4 * m) after ≡ drop (4 * m) boxes)
-  build-cut (BuildSays.refused e) = (BuildSays.refused (build-judged-cut n m R x y boxes ∙ e), refl)
-  build-cut (BuildSays.built f d) =
+  build-cut (Builds.refused e) = (Builds.refused (build-judged-cut n m R x y boxes ∙ e), refl)
+  build-cut (Builds.built f d) =
       let l = build-fine n m R x y boxes f in
       let r = drawn-cut {Is = λ e old new. Tight (network m R) x y e new} {Js = λ e old new. Tight (network m (cut m R)) (take n x) (take n y) e new} (λ e low high. tight-cut (l .sound) x y e low high) d in
-      (BuildSays.built (build-judged-cut n m R x y boxes ∙ f) (r .0), r .1)
+      (Builds.built (build-judged-cut n m R x y boxes ∙ f) (r .0), r .1)
 
   pub check-cut : {reply : Reply} → CheckSays n m R x y boxes reply → CheckSays n m (cut m R) (take n x) (take n y) (take (4 * m) boxes) reply
-  check-cut (CheckSays.refused e) = CheckSays.refused (check-judged-cut n m R x y boxes ∙ e)
-  check-cut (CheckSays.consistent f c) =
+  check-cut (Checks.refused e) = Checks.refused (check-judged-cut n m R x y boxes ∙ e)
+  check-cut (Checks.consistent f c) =
       let l = build-fine n m R x y boxes (check-fine n m R x y boxes f .0) in
-      CheckSays.consistent (check-judged-cut n m R x y boxes ∙ f)
+      Checks.consistent (check-judged-cut n m R x y boxes ∙ f)
       (record { keeps = λ e t i. let j = inS-back (l .sound) x y i in holds-there (l .sound) x y boxes e t j (c .keeps e t j) })
-  check-cut (CheckSays.missed f h) =
+  check-cut (Checks.missed f h) =
       let l = build-fine n m R x y boxes (check-fine n m R x y boxes f .0) in
-      CheckSays.missed (check-judged-cut n m R x y boxes ∙ f)
+      Checks.missed (check-judged-cut n m R x y boxes ∙ f)
       (record {
         misses = misses-there (l .sound) x y boxes (h .misses);
         lowest-arc = λ i j k. h .lowest-arc i j (misses-back (l .sound) x y boxes k);
         lowest-node = λ j k. h .lowest-node j (misses-back (l .sound) x y boxes k);
       })
 
-  pub update-cut : {arc weight : ℕ} {reply : Reply} {weights : List ℕ} {after : List ℤ} → UpdateSays n m R x y boxes arc weight reply weights after
-      → UpdateSays n m (cut m R) (take n x) (take n y) (take (4 * m) boxes) arc weight reply (take m weights) (take (4 * m) after)
-      × (drop m weights ≡ drop m (R .weights)) × (drop (4 * m) after ≡ drop (4 * m) boxes)
-  update-cut {arc} {weight} (UpdateSays.refused e) = (UpdateSays.refused (update-judged-cut n m R x y boxes arc weight ∙ e), refl, refl)
-  update-cut {arc} {weight} (UpdateSays.updated {after = after} f d) =
-      let u = update-fine n m R x y boxes arc weight f in
+  pub update-cut : (arc weight closure : ℕ) {reply : Reply} {rows : Rows} {after : List ℤ} → UpdateSays n m R x y boxes arc weight closure reply rows after
+      → UpdateSays n m (cut m R) (take n x) (take n y) (take (4 * m) boxes) arc weight closure reply (cut m rows) (take (4 * m) after)
+      × SameRest m rows R × (drop (4 * m) after ≡ drop (4 * m) boxes)
+  update-cut arc weight closure (Updates.refused e) = (Updates.refused (update-judged-cut n m R x y boxes arc weight closure ∙ e), record { tails = refl; heads = refl; weights = refl; closures = refl }, refl)
+  update-cut arc weight closure (Updates.updated {after = after} f d) =
+      let u = update-fine n m R x y boxes arc weight closure f in
       let l = build-fine n m R x y boxes (check-fine n m R x y boxes (u .0) .0) in
-      let S = reweighted R arc weight in
-      let same : take m (S .weights) ≡ reweighted (cut m R) arc weight .weights = take-set-lt m (R .weights) (arc - 1) weight (omega (arith, u .1, u .2)) in
-      let r = drawn-cut {Is = Updated (network m S) x y} {Js = Updated (network m (cut m S)) (take n x) (take n y)} (λ e low high. updated-cut (sound-reweighted (l .sound) arc weight (u .1) (u .2) (u .3)) x y e low high) d in
-      (rw same (UpdateSays.updated (update-judged-cut n m R x y boxes arc weight ∙ f) (rw same at (r .0))), drop-set-lt m (R .weights) (arc - 1) weight (omega (arith, u .1, u .2)), r .1)
+      let S = changed R arc weight closure in
+      let below : arc - 1 < m = omega (arith, u .1, u .2) in
+      let same : cut m S ≡ changed (cut m R) arc weight closure =
+      rw (take-set-lt m (R .weights) (arc - 1) weight below, take-set-lt m (R .closures) (arc - 1) closure below) refl in
+      let r = drawn-cut {Is = Updated (network m S) x y} {Js = Updated (network m (cut m S)) (take n x) (take n y)} (λ e low high. updated-cut (sound-changed (l .sound) arc weight closure (u .1) (u .2) (u .3)) x y e low high) d in (
+        rw same (Updates.updated (update-judged-cut n m R x y boxes arc weight closure ∙ f) (rw same at (r .0))),
+        record {
+          tails = refl;
+          heads = refl;
+          weights = drop-set-lt m (R .weights) (arc - 1) weight below;
+          closures = drop-set-lt m (R .closures) (arc - 1) closure below;
+        },
+        r .1,
+      )
 
 -- Two calls whose rows agree on the first m, n or 4m places have the same reply, and write the same there
 module _
@@ -153,11 +170,14 @@ module _
     {reply reply′ : Reply}
   where
     pub build-surplus : {after after′ : List ℤ} → BuildSays n m R x y boxes reply after → BuildSays n m R′ x′ y′ boxes′ reply′ after′ → (reply ≡ reply′) × (take (4 * m) after ≡ take (4 * m) after′)
-    build-surplus p q = build-unique (rw (rows, ex, ey, eb) at (build-cut p .0)) (build-cut q .0)
+    build-surplus p q = build-unique (rw (rows, ex, ey, eb) at (build-cut n m R x y boxes p .0)) (build-cut n m R′ x′ y′ boxes′ q .0)
 
     pub check-surplus : CheckSays n m R x y boxes reply → CheckSays n m R′ x′ y′ boxes′ reply′ → reply ≡ reply′
-    check-surplus p q = check-unique (rw (rows, ex, ey, eb) at (check-cut p)) (check-cut q)
+    check-surplus p q = check-unique (rw (rows, ex, ey, eb) at (check-cut n m R x y boxes p)) (check-cut n m R′ x′ y′ boxes′ q)
 
-    pub update-surplus : {arc weight : ℕ} {weights weights′ : List ℕ} {after after′ : List ℤ} → UpdateSays n m R x y boxes arc weight reply weights after → UpdateSays n m R′ x′ y′ boxes′ arc weight reply′ weights′ after′
-        → (reply ≡ reply′) × (take m weights ≡ take m weights′) × (take (4 * m) after ≡ take (4 * m) after′)
-    update-surplus p q = update-unique (rw (rows, ex, ey, eb) at (update-cut p .0)) (update-cut q .0)
+    pub update-surplus : (arc weight closure : ℕ) {left left′ : Rows} {after after′ : List ℤ} → UpdateSays n m R x y boxes arc weight closure reply left after
+        → UpdateSays n m R′ x′ y′ boxes′ arc weight closure reply′ left′ after′
+        → (reply ≡ reply′) × (cut m left ≡ cut m left′) × (take (4 * m) after ≡ take (4 * m) after′)
+    update-surplus arc weight closure {left} {after = after} p q =
+        let there = subst (λ (S : Rows). UpdateSays n m S (take n x) (take n y) (take (4 * m) boxes) arc weight closure reply (cut m left) (take (4 * m) after)) rows (update-cut n m R x y boxes arc weight closure p .0) in
+        update-unique (rw (ex, ey, eb) at there) (update-cut n m R′ x′ y′ boxes′ arc weight closure q .0)

@@ -6,7 +6,7 @@ use mathlib.Core.List.{List}
 use lib.IntN.{ℤ}
 use Rattle.rules.specs.Limits.{leastCoordinate, mostCoordinate}
 use Rattle.walks.specs.Walk.{Net}
-use Rattle.walks.specs.Rows.{Rows, Sound, network}
+use Rattle.walks.specs.Rows.{Rows, Sound, laid, network}
 use Rattle.walks.specs.Through.{InS}
 use Rattle.walks.proofs.Limits.{sound-within, inS-node}
 use Rattle.geometry.specs.Box.{Box, Holds, Within, Upright, WellShaped, Smallest}
@@ -17,8 +17,8 @@ use Rattle.boxwork.specs.Tight.{Tight, Updated}
 
 -- S(e) of sound rows is of an arc of 1..m, and has nodes of 1..n only
 pub inS-range : {n m : ℕ} {R : Rows} {e t : ℕ} → Sound n m R → InS (network m R) e t → (1 ≤ e) × (e ≤ m) × (1 ≤ t) × (t ≤ n)
-unfolding network
-inS-range s i = let t = inS-node (sound-within s) i in (i .arc .0, i .arc .1, t .0, t .1)
+unfolding laid network
+inS-range s i = let t = inS-node (sound-within s) i in (i .arc .0 .0, i .arc .0 .1, t .0, t .1)
 
 -- a box that holds a place is upright
 pub holds-upright : {b : Box} {px py : ℤ} → Holds b px py → Upright b

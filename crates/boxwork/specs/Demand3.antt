@@ -12,7 +12,7 @@ use Rattle.rules.specs.declared.Judged.the-variants.{Fine}
 use Rattle.rules.specs.declared.Refusal.{Refusal}
 use Rattle.rules.specs.declared.Refusal.the-variants.{NoWalk}
 use Rattle.walks.specs.Least.{Reached}
-use Rattle.walks.specs.Rows.{Rows, rows, network}
+use Rattle.walks.specs.Rows.{Rows, network}
 use Rattle.walks.specs.Through.{Begins}
 use Rattle.search.specs.Says.{SearchSays, BoxedSays}
 use Rattle.boxwork.specs.Tight.{HoldsNode}
@@ -65,8 +65,8 @@ module _ (n m : ℕ) (R : Rows) (x y boxes : List ℤ) where
   abbrev pub BuildYes : Type 0
   BuildYes = (before : List ℤ) → BuildSays n m R x y before (accepted []) boxes → CheckSays n m R x y boxes (accepted [])
 
-  -- 5. and those that it updates, in the network with the new weight. `update-yes`
+  -- 5. and those that it updates, in the network with the new weight and closure. `update-yes`
   abbrev pub UpdateYes : Type 0
   UpdateYes =
-      (before : List ℤ) (arc weight : ℕ) (weights : List ℕ) → UpdateSays n m R x y before arc weight (accepted []) weights boxes
-      → CheckSays n m (rows (R .tails) (R .heads) weights) x y boxes (accepted [])
+      (before : List ℤ) (arc weight closure : ℕ) (R′ : Rows) → UpdateSays n m R x y before arc weight closure (accepted []) R′ boxes
+      → CheckSays n m R′ x y boxes (accepted [])

@@ -16,18 +16,29 @@ pub fn build(
     tails: &[u32],
     heads: &[u32],
     weights: &[u32],
+    closures: &[u8],
     x: &[i32],
     y: &[i32],
     boxes: &mut [i32],
 ) -> Judged
-    ensures { λ r. ⌜ BuildSays n m (rows (now (tails .entry)) (now (heads .entry)) (now (weights .entry))) (now (x .entry)) (now (y .entry)) (now (boxes .entry)) (judgedReply r) (now (boxes .exit)) ⌝ }
+    ensures { λ r. ⌜ BuildSays n m (rows (now (tails .entry)) (now (heads .entry)) (now (weights .entry)) (now (closures .entry))) (now (x .entry)) (now (y .entry)) (now (boxes .entry)) (judgedReply r) (now (boxes .exit)) ⌝ }
 {
-    let j = judging::judge_build(n, m, tails, heads, weights, x, y, boxes);
+    let j = judging::judge_build(n, m, tails, heads, weights, closures, x, y, boxes);
     let Judged::Fine = j else {
         return j;
     };
     drawing::heads::draw_heads(true, m as usize, heads, x, y, boxes);
-    drawing::grow::grow_all(n as usize, m as usize, tails, heads, weights, x, y, boxes);
+    drawing::grow::grow_all(
+        n as usize,
+        m as usize,
+        tails,
+        heads,
+        weights,
+        closures,
+        x,
+        y,
+        boxes,
+    );
     Judged::Fine
 }
 
@@ -38,13 +49,14 @@ pub fn check(
     tails: &[u32],
     heads: &[u32],
     weights: &[u32],
+    closures: &[u8],
     x: &[i32],
     y: &[i32],
     boxes: &[i32],
 ) -> Judged
-    ensures { λ r. ⌜ CheckSays n m (rows (now (tails .entry)) (now (heads .entry)) (now (weights .entry))) (now (x .entry)) (now (y .entry)) (now (boxes .entry)) (judgedReply r) ⌝ }
+    ensures { λ r. ⌜ CheckSays n m (rows (now (tails .entry)) (now (heads .entry)) (now (weights .entry)) (now (closures .entry))) (now (x .entry)) (now (y .entry)) (now (boxes .entry)) (judgedReply r) ⌝ }
 {
-    let j = judging::judge_check(n, m, tails, heads, weights, x, y, boxes);
+    let j = judging::judge_check(n, m, tails, heads, weights, closures, x, y, boxes);
     let Judged::Fine = j else {
         return j;
     };
@@ -54,6 +66,7 @@ pub fn check(
         tails,
         heads,
         weights,
+        closures,
         x,
         y,
         boxes,
@@ -64,35 +77,63 @@ pub fn check(
     Judged::Refused(Refusal::BoxMisses { arc, node })
 }
 
-// An arc's new weight is written.
-fn set_weight(weights: &mut [u32], arc: u32, weight: u32)
-    requires { ⌜ (1 ≤ arc) × (arc ≤ length (now weights)) ⌝ }
+// An arc's new weight and its new closure are written.
+fn set_arc(weights: &mut [u32], closures: &mut [u8], arc: u32, weight: u32, closure: u8)
+    requires { ⌜ (1 ≤ arc) × (arc ≤ length (now weights)) × (arc ≤ length (now closures)) ⌝ }
     ensures { λ _. ⌜ now (weights .exit) ≡ set (now (weights .entry)) (arc - 1) weight ⌝ }
+    ensures { λ _. ⌜ now (closures .exit) ≡ set (now (closures .entry)) (arc - 1) closure ⌝ }
 {
-    weights[arc as usize - 1] = weight;
+    let at = arc as usize - 1;
+    weights[at] = weight;
+    closures[at] = closure;
 }
 
-// Update writes an arc's new weight, and makes each box the smallest that holds its old box and its tight box in the new network.
+// Update writes an arc's new weight and its new closure, and makes each box the smallest that holds its old box and its tight box in the new network.
 pub fn update(
     n: u32,
     m: u32,
     tails: &[u32],
     heads: &[u32],
     weights: &mut [u32],
+    closures: &mut [u8],
     x: &[i32],
     y: &[i32],
     boxes: &mut [i32],
     arc: u32,
     weight: u32,
+    closure: u8,
 ) -> Judged
-    ensures { λ r. ⌜ UpdateSays n m (rows (now (tails .entry)) (now (heads .entry)) (now (weights .entry))) (now (x .entry)) (now (y .entry)) (now (boxes .entry)) arc weight (judgedReply r) (now (weights .exit)) (now (boxes .exit)) ⌝ }
+    ensures { λ r. ⌜ UpdateSays n m (rows (now (tails .entry)) (now (heads .entry)) (now (weights .entry)) (now (closures .entry))) (now (x .entry)) (now (y .entry)) (now (boxes .entry)) arc weight closure (judgedReply r) (rows (now (tails .entry)) (now (heads .entry)) (now (weights .exit)) (now (closures .exit))) (now (boxes .exit)) ⌝ }
 {
-    let j = judging::judge_update(n, m, tails, heads, weights, x, y, boxes, arc, weight);
+    let j = judging::judge_update(
+        n,
+        m,
+        tails,
+        heads,
+        weights,
+        closures,
+        x,
+        y,
+        boxes,
+        arc,
+        weight,
+        closure,
+    );
     let Judged::Fine = j else {
         return j;
     };
-    set_weight(weights, arc, weight);
+    set_arc(weights, closures, arc, weight, closure);
     drawing::heads::draw_heads(false, m as usize, heads, x, y, boxes);
-    drawing::grow::grow_all(n as usize, m as usize, tails, heads, weights, x, y, boxes);
+    drawing::grow::grow_all(
+        n as usize,
+        m as usize,
+        tails,
+        heads,
+        weights,
+        closures,
+        x,
+        y,
+        boxes,
+    );
     Judged::Fine
 }

@@ -5,6 +5,7 @@ use mathlib.Core.List.{List}
 use native.Mathlib.Omega.{arith}
 use lib.IntN.{ℤ}
 use Rattle.rules.proofs.PaperLaws.{judged-injective}
+use Rattle.walks.specs.Rows.{Rows}
 use Rattle.files.specs.File.{Held}
 use Rattle.commands.specs.declared.Call.{Call}
 use Rattle.dimacs.proofs.Unique.{read-gr-unique, read-co-unique}
@@ -36,16 +37,16 @@ makes-unique {g = g} (Makes.boxed a s) (Makes.boxed a′ s′) =
 
 -- ---- the files
 
-pub reads-graph-unique : {held : Held} {sizes next next′ : Sizes} {tails heads weights reply reply′ a a′ b b′ c c′ : List ℕ}
-    → ReadsGraph held sizes tails heads weights reply next a b c → ReadsGraph held sizes tails heads weights reply′ next′ a′ b′ c′
-    → (reply ≡ reply′) × (next ≡ next′) × (a ≡ a′) × (b ≡ b′) × (c ≡ c′)
-reads-graph-unique (ReadsGraph.no-file h) (ReadsGraph.no-file h′) = (refl, refl, refl, refl, refl)
+pub reads-graph-unique : {held : Held} {sizes next next′ : Sizes} {R left left′ : Rows} {reply reply′ : List ℕ}
+    → ReadsGraph held sizes R reply next left → ReadsGraph held sizes R reply′ next′ left′
+    → (reply ≡ reply′) × (next ≡ next′) × (left ≡ left′)
+reads-graph-unique (ReadsGraph.no-file h) (ReadsGraph.no-file h′) = (refl, refl, refl)
 reads-graph-unique (ReadsGraph.no-file h) (ReadsGraph.file r h′ p) = let z : _≡_ {A = ℕ} 0 1 = cc in absurd (omega arith)
 reads-graph-unique (ReadsGraph.file r h p) (ReadsGraph.no-file h′) = let z : _≡_ {A = ℕ} 0 1 = cc in absurd (omega arith)
 reads-graph-unique {sizes = sizes} (ReadsGraph.file {bytes = bytes} r h p) (ReadsGraph.file {bytes = bytes′} r′ h′ p′) =
     let same : bytes ≡ bytes′ = cc in
-    let e = read-gr-unique _ _ _ _ r r′ _ _ _ _ _ _ (rw same at p) p′ in
-    (ap graphLine (e .0), ap (λ (g : GrReply). graphSizes g sizes) (e .0), e .1, e .2, e .3)
+    let e = read-gr-unique _ _ _ _ _ r r′ _ _ _ _ _ _ _ _ (rw same at p) p′ in
+    (ap graphLine (e .0), ap (λ (g : GrReply). graphSizes g sizes) (e .0), rw (e .1, e .2, e .3, e .4))
 
 pub reads-places-unique : {held : Held} {n : ℕ} {x y : List ℤ} {reply reply′ : List ℕ} {a a′ b b′ : List ℤ}
     → ReadsPlaces held n x y reply a b → ReadsPlaces held n x y reply′ a′ b′ → (reply ≡ reply′) × (a ≡ a′) × (b ≡ b′)

@@ -24,7 +24,7 @@ use Rattle.calls.specs.declared.network.Task.the-variants as task
 abbrev pub workCall : BoxWork → Call
 workCall work.Build = call.Build
 workCall work.Check = call.Check
-workCall (work.Update arc weight) = call.Update arc weight
+workCall (work.Update arc weight closure) = call.Update arc weight closure
 
 abbrev pub tripCall : Trip → Call
 tripCall (trip.Plain s t) = call.Search s t
@@ -39,27 +39,37 @@ pub record Given : Type 0 where
   pub tails : List ℕ
   pub heads : List ℕ
   pub weights : List ℕ
+  pub closures : List ℕ
   pub x : List ℤ
   pub y : List ℤ
   pub boxes : List ℤ
   pub route : List ℕ
 
-abbrev pub given : List ℕ → List ℕ → List ℕ → List ℤ → List ℤ → List ℤ → List ℕ → Given
-given t h w x y b r = record { tails = t; heads = h; weights = w; x = x; y = y; boxes = b; route = r }
+-- the rows of a network, coordinates, boxes and a route row
+abbrev pub given : walks.Rows → List ℤ → List ℤ → List ℤ → List ℕ → Given
+given R x y b r = record {
+  tails = R .tails;
+  heads = R .heads;
+  weights = R .weights;
+  closures = R .closures;
+  x = x;
+  y = y;
+  boxes = b;
+  route = r;
+}
 
--- the rows of the network
 abbrev pub arcs : Given → walks.Rows
-arcs g = walks.rows (g .tails) (g .heads) (g .weights)
+arcs g = walks.rows (g .tails) (g .heads) (g .weights) (g .closures)
 
 -- the same rows but for what a call has written
-abbrev pub withWeights : List ℕ → Given → Given
-withWeights w g = given (g .tails) (g .heads) w (g .x) (g .y) (g .boxes) (g .route)
+abbrev pub withArcs : walks.Rows → Given → Given
+withArcs R g = given R (g .x) (g .y) (g .boxes) (g .route)
 
 abbrev pub withBoxes : List ℤ → Given → Given
-withBoxes b g = given (g .tails) (g .heads) (g .weights) (g .x) (g .y) b (g .route)
+withBoxes b g = given (arcs g) (g .x) (g .y) b (g .route)
 
 abbrev pub withRoute : List ℕ → Given → Given
-withRoute r g = given (g .tails) (g .heads) (g .weights) (g .x) (g .y) (g .boxes) r
+withRoute r g = given (arcs g) (g .x) (g .y) (g .boxes) r
 
 -- a call's answer in a line, and what it leaves in the rows
 pub data Makes (sizes : Sizes) (g : Given) : Call → List ℕ → Given → Type 0 where
@@ -69,9 +79,9 @@ pub data Makes (sizes : Sizes) (g : Given) : Call → List ℕ → Given → Typ
   check : (j : Judged)
       → CheckSays (sizes .n) (sizes .m) (arcs g) (g .x) (g .y) (g .boxes) (judgedReply j)
       → Makes sizes g call.Check (judgedLine j) g
-  update : {arc weight : ℕ} (j : Judged) {weights : List ℕ} {boxes : List ℤ}
-      → UpdateSays (sizes .n) (sizes .m) (arcs g) (g .x) (g .y) (g .boxes) arc weight (judgedReply j) weights boxes
-      → Makes sizes g (call.Update arc weight) (judgedLine j) (withBoxes boxes (withWeights weights g))
+  update : {arc weight closure : ℕ} (j : Judged) {R : walks.Rows} {boxes : List ℤ}
+      → UpdateSays (sizes .n) (sizes .m) (arcs g) (g .x) (g .y) (g .boxes) arc weight closure (judgedReply j) R boxes
+      → Makes sizes g (call.Update arc weight closure) (judgedLine j) (withBoxes boxes (withArcs R g))
   search : {s t : ℕ} (a : Answer) {route : List ℕ}
       → SearchSays (sizes .n) (sizes .m) (arcs g) s t (g .route) (paper a) route
       → Makes sizes g (call.Search s t) (answerLine a route) (withRoute route g)

@@ -3,6 +3,7 @@ use Prim.Native.Nat.{ℕ}
 use mathlib.Core.Path.{_≡_}
 use mathlib.Core.List.{List}
 use lib.IntN.{ℤ}
+use Rattle.walks.specs.Rows.{Rows}
 use Rattle.files.specs.File.{Held, text, unread}
 use Rattle.wording.specs.Refusals.{refusalLine, noFileLine}
 use Rattle.dimacs.specs.Promise.{GrPromise, CoPromise}
@@ -28,12 +29,12 @@ placesLine places.Read = okLine
 placesLine (places.Refused r) = refusalLine r
 
 -- the file is read into the arc rows, and gives n and m; where it is refused or not read, everything stays
-pub data ReadsGraph (held : Held) (sizes : Sizes) (tails heads weights : List ℕ) : List ℕ → Sizes → List ℕ → List ℕ → List ℕ → Type 0 where
-  no-file : held ≡ unread → ReadsGraph held sizes tails heads weights noFileLine sizes tails heads weights
-  file : {bytes : List ℕ} (r : GrReply) {tails′ heads′ weights′ : List ℕ}
+pub data ReadsGraph (held : Held) (sizes : Sizes) (R : Rows) : List ℕ → Sizes → Rows → Type 0 where
+  no-file : held ≡ unread → ReadsGraph held sizes R noFileLine sizes R
+  file : {bytes : List ℕ} (r : GrReply) {R′ : Rows}
       → held ≡ text bytes
-      → GrPromise bytes tails heads weights r tails′ heads′ weights′
-      → ReadsGraph held sizes tails heads weights (graphLine r) (graphSizes r sizes) tails′ heads′ weights′
+      → GrPromise bytes (R .tails) (R .heads) (R .weights) (R .closures) r (R′ .tails) (R′ .heads) (R′ .weights) (R′ .closures)
+      → ReadsGraph held sizes R (graphLine r) (graphSizes r sizes) R′
 
 pub data ReadsPlaces (held : Held) (n : ℕ) (x y : List ℤ) : List ℕ → List ℤ → List ℤ → Type 0 where
   no-file : held ≡ unread → ReadsPlaces held n x y noFileLine x y

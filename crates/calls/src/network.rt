@@ -3,19 +3,20 @@ ghost use Prim.Native.Nat.{ℕ, _≤_};
 ghost use mathlib.Core.Path.{_≡_};
 ghost use mathlib.Core.List.{List};
 ghost use lib.ListN.{length};
+ghost use Rattle.walks.specs.Rows.{rows};
 ghost use Rattle.pages.specs.Page.{Printed};
-ghost use Rattle.calls.specs.Calls.{given, withWeights, withBoxes, withRoute, workCall, tripCall, taskCall, Makes};
+ghost use Rattle.calls.specs.Calls.{given, withRoute, workCall, tripCall, taskCall, Makes};
 use crate::Sizes;
 use commands::Call;
 use pages::PAGE;
 use replies::answers::put_answer;
 use replies::words::put_judged;
 
-// The calls that write weights and boxes.
+// The calls that write weights, closures and boxes.
 pub enum BoxWork {
     Build,
     Check,
-    Update(u32, u32),
+    Update(u32, u32, u8),
 }
 
 // The calls that write the route row alone.
@@ -36,7 +37,7 @@ pub fn task_of(call: Call) -> Task
     match call {
         Call::Build => Task::Boxes(BoxWork::Build),
         Call::Check => Task::Boxes(BoxWork::Check),
-        Call::Update(arc, weight) => Task::Boxes(BoxWork::Update(arc, weight)),
+        Call::Update(arc, weight, closure) => Task::Boxes(BoxWork::Update(arc, weight, closure)),
         Call::Search(s, t) => Task::Route(Trip::Plain(s, t)),
         Call::Boxed(s, t) => Task::Route(Trip::Boxed(s, t)),
     }
@@ -50,26 +51,40 @@ pub fn work_on_boxes(
     tails: &[u32],
     heads: &[u32],
     weights: &mut [u32],
+    closures: &mut [u8],
     x: &[i32],
     y: &[i32],
     boxes: &mut [i32],
 ) -> usize
-    ensures { λ r. ⌜ ((route : List ℕ) → let before = given (now (tails .entry)) (now (heads .entry)) (now (weights .entry)) (now (x .entry)) (now (y .entry)) (now (boxes .entry)) route in let after = withBoxes (now (boxes .exit)) (withWeights (now (weights .exit)) before) in Printed (λ reply. Makes sizes before (workCall work) reply after) (now (page .entry)) r (now (page .exit))) ⌝ }
+    ensures { λ r. ⌜ ((route : List ℕ) → let before = given (rows (now (tails .entry)) (now (heads .entry)) (now (weights .entry)) (now (closures .entry))) (now (x .entry)) (now (y .entry)) (now (boxes .entry)) route in let after = given (rows (now (tails .entry)) (now (heads .entry)) (now (weights .exit)) (now (closures .exit))) (now (x .entry)) (now (y .entry)) (now (boxes .exit)) route in Printed (λ reply. Makes sizes before (workCall work) reply after) (now (page .entry)) r (now (page .exit))) ⌝ }
     ensures { λ r. ⌜ r ≤ 368640 ⌝ }
 {
     let n = sizes.n;
     let m = sizes.m;
     match work {
         BoxWork::Build => {
-            let j = boxwork::build(n, m, tails, heads, weights, x, y, boxes);
+            let j = boxwork::build(n, m, tails, heads, weights, closures, x, y, boxes);
             return put_judged(page, j);
         }
         BoxWork::Check => {
-            let j = boxwork::check(n, m, tails, heads, weights, x, y, boxes);
+            let j = boxwork::check(n, m, tails, heads, weights, closures, x, y, boxes);
             return put_judged(page, j);
         }
-        BoxWork::Update(arc, weight) => {
-            let j = boxwork::update(n, m, tails, heads, weights, x, y, boxes, arc, weight);
+        BoxWork::Update(arc, weight, closure) => {
+            let j = boxwork::update(
+                n,
+                m,
+                tails,
+                heads,
+                weights,
+                closures,
+                x,
+                y,
+                boxes,
+                arc,
+                weight,
+                closure,
+            );
             return put_judged(page, j);
         }
     }
@@ -83,24 +98,38 @@ pub fn make_trip(
     tails: &[u32],
     heads: &[u32],
     weights: &[u32],
+    closures: &[u8],
     x: &[i32],
     y: &[i32],
     boxes: &[i32],
     route: &mut [u32],
 ) -> usize
     requires { ⌜ length (now route) ≤ 16384 ⌝ }
-    ensures { λ r. let before = given (now (tails .entry)) (now (heads .entry)) (now (weights .entry)) (now (x .entry)) (now (y .entry)) (now (boxes .entry)) (now (route .entry)) in ⌜ Printed (λ reply. Makes sizes before (tripCall trip) reply (withRoute (now (route .exit)) before)) (now (page .entry)) r (now (page .exit)) ⌝ }
+    ensures { λ r. let before = given (rows (now (tails .entry)) (now (heads .entry)) (now (weights .entry)) (now (closures .entry))) (now (x .entry)) (now (y .entry)) (now (boxes .entry)) (now (route .entry)) in ⌜ Printed (λ reply. Makes sizes before (tripCall trip) reply (withRoute (now (route .exit)) before)) (now (page .entry)) r (now (page .exit)) ⌝ }
     ensures { λ r. ⌜ r ≤ 368640 ⌝ }
 {
     let n = sizes.n;
     let m = sizes.m;
     match trip {
         Trip::Plain(s, t) => {
-            let a = search::search(n, m, tails, heads, weights, s, t, route);
+            let a = search::search(n, m, tails, heads, weights, closures, s, t, route);
             return put_answer(page, a, route);
         }
         Trip::Boxed(s, t) => {
-            let a = search::search_boxed(n, m, tails, heads, weights, x, y, boxes, s, t, route);
+            let a = search::search_boxed(
+                n,
+                m,
+                tails,
+                heads,
+                weights,
+                closures,
+                x,
+                y,
+                boxes,
+                s,
+                t,
+                route,
+            );
             return put_answer(page, a, route);
         }
     }

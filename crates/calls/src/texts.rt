@@ -1,6 +1,7 @@
 // `gr` and `co`: what was read of a file goes into rows.
 ghost use Prim.Native.Nat.{_≤_};
 ghost use lib.ListN.{length};
+ghost use Rattle.walks.specs.Rows.{rows};
 ghost use Rattle.files.specs.File.{Within, heldIn};
 ghost use Rattle.pages.specs.Page.{Printed};
 ghost use Rattle.calls.specs.Texts.{ReadsGraph, ReadsPlaces};
@@ -24,9 +25,10 @@ pub fn read_graph(
     tails: &mut [u32],
     heads: &mut [u32],
     weights: &mut [u32],
+    closures: &mut [u8],
 ) -> Done
     requires { ⌜ Within (length (now text)) file ⌝ }
-    ensures { λ r. let held = heldIn (now (text .entry)) file in ⌜ Printed (λ reply. ReadsGraph held sizes (now (tails .entry)) (now (heads .entry)) (now (weights .entry)) reply (r .sizes) (now (tails .exit)) (now (heads .exit)) (now (weights .exit))) (now (page .entry)) (r .end) (now (page .exit)) ⌝ }
+    ensures { λ r. let held = heldIn (now (text .entry)) file in ⌜ Printed (λ reply. ReadsGraph held sizes (rows (now (tails .entry)) (now (heads .entry)) (now (weights .entry)) (now (closures .entry))) reply (r .sizes) (rows (now (tails .exit)) (now (heads .exit)) (now (weights .exit)) (now (closures .exit)))) (now (page .entry)) (r .end) (now (page .exit)) ⌝ }
     ensures { λ r. ⌜ r .end ≤ 1000 ⌝ }
 {
     let File::Bytes(k) = file else {
@@ -35,7 +37,7 @@ pub fn read_graph(
             end: put_no_file(page),
         };
     };
-    let reply = dimacs::read_gr(&text[..k], tails, heads, weights);
+    let reply = dimacs::read_gr(&text[..k], tails, heads, weights, closures);
     match reply {
         GrReply::Read(n, m) => {
             return Done {

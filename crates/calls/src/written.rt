@@ -1,5 +1,5 @@
 // A text of rows, in another row.
-ghost use Rattle.walks.specs.Rows.{rows};
+ghost use Rattle.walks.specs.Rows.{openRows};
 ghost use Rattle.calls.specs.Writing.{TextWrites};
 use crate::Sizes;
 use commands::verbs::Format;
@@ -16,7 +16,7 @@ pub fn write_text(
     y: &[i32],
     text: &mut [u8],
 ) -> WriteReply
-    ensures { λ r. ⌜ TextWrites format sizes (rows (now (tails .entry)) (now (heads .entry)) (now (weights .entry))) (now (x .entry)) (now (y .entry)) (now (text .entry)) r (now (text .exit)) ⌝ }
+    ensures { λ r. ⌜ TextWrites format sizes (openRows (now (tails .entry)) (now (heads .entry)) (now (weights .entry))) (now (x .entry)) (now (y .entry)) (now (text .entry)) r (now (text .exit)) ⌝ }
 {
     match format {
         Format::Gr => {

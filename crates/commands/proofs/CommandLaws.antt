@@ -34,13 +34,22 @@ use Rattle.commands.proofs.WordLaws.{words-none, word-first, word-secon
 
 -- ---- a number, two numbers, or a row, as the first words
 
-pub number-is : (go : ℕ → Command) (s f : List ℕ) (n : Count) (v : ℕ) → f ≡ firstField s → n ≡ number f → n ≡ count.Is v → withNumber (number (word 0 (wordsOf s))) go ≡ go v
+pub read-is : (go : ℕ → Command) (n m : Count) (v : ℕ) → n ≡ m → n ≡ count.Is v → withNumber m go ≡ go v
 unfolding withNumber
-number-is go s f n v p q e = rw (word-first s, sym p, sym q ∙ e)
+read-is go n m v h e = rw (sym h ∙ e)
+
+pub read-not : (go : ℕ → Command) (n m : Count) (fault : Fault) → n ≡ m → n ≡ count.Not fault → withNumber m go ≡ Faulty fault
+unfolding withNumber
+read-not go n m fault h e = rw (sym h ∙ e)
+
+first-number : (s f : List ℕ) (n : Count) → f ≡ firstField s → n ≡ number f → n ≡ number (word 0 (wordsOf s))
+first-number s f n p q = rw (word-first s, sym p) q
+
+pub number-is : (go : ℕ → Command) (s f : List ℕ) (n : Count) (v : ℕ) → f ≡ firstField s → n ≡ number f → n ≡ count.Is v → withNumber (number (word 0 (wordsOf s))) go ≡ go v
+number-is go s f n v p q e = read-is go n _ v (first-number s f n p q) e
 
 pub number-not : (go : ℕ → Command) (s f : List ℕ) (n : Count) (fault : Fault) → f ≡ firstField s → n ≡ number f → n ≡ count.Not fault → withNumber (number (word 0 (wordsOf s))) go ≡ Faulty fault
-unfolding withNumber
-number-not go s f n fault p q e = rw (word-first s, sym p, sym q ∙ e)
+number-not go s f n fault p q e = read-not go n _ fault (first-number s f n p q) e
 
 pub pair-are : (go : ℕ → ℕ → Command) (p q : Pair) (a b : ℕ) → p ≡ q → p ≡ pair.Are a b → withPair q go ≡ go a b
 unfolding withPair

@@ -1,10 +1,10 @@
 -- Laws of the limits of 32 bits, by the tests of a number that is held.
-use mathlib.Core.Path.{_≡_, refl, ap}
-use mathlib.Core.Bool.{cond}
+use mathlib.Core.Path.{_≡_, refl, sym, ap, _∙_}
+use mathlib.Core.Bool.{Bool, true, false, cond}
 use Prim.Native.Nat.{ℕ, zero, suc, _+_, _-_, _≤_, _<_, min}
 use native.Mathlib.Decide.{decLe}
 use native.Mathlib.Omega.{arith}
-use lib.Dec.{leb}
+use lib.Dec.{leb, leb→le}
 use lib.IntN.{pos, negsuc, negℤ, _-ℤ_, +ℤ-idl}
 use mir.Syntax.{w32}
 use mir.Val.{SFits, toZ, ofZ}
@@ -15,8 +15,10 @@ use Rattle.scan.specs.declared.numbers.Natural.{Natural}
 use Rattle.scan.specs.declared.numbers.Natural.the-variants.{Number, NoNumber}
 use Rattle.scan.specs.declared.numbers.Integer.{Integer}
 use Rattle.scan.specs.declared.numbers.Integer.the-variants.{Plain, Minus, NoInteger}
-use Rattle.commands.specs.Numbers.{countTo, signedOf}
+use Rattle.commands.specs.Numbers.{countTo, byteOf, signedOf}
+use Rattle.commands.specs.declared.Fault.{Fault}
 use Rattle.commands.specs.declared.Fault.the-variants.{BeyondType}
+use Rattle.commands.specs.declared.numbers.Count.{Count}
 use Rattle.commands.specs.declared.numbers.Count.the-variants as count
 use Rattle.commands.specs.declared.numbers.Signed.the-variants as signed
 
@@ -49,6 +51,22 @@ count-high most v h = rw (lt-leb v most h)
 pub count-in : (most v : ℕ) → v ≤ most → count.Is v ≡ countTo most (Number v)
 unfolding countTo
 count-in most v h = rw (le-leb v most h)
+
+not-is : {A : Type 0} (f : Fault) (n : ℕ) → count.Not f ≡ count.Is n → A
+not-is f n e = let z : _≡_ {A = ℕ} 0 1 = cc in absurd (omega arith)
+
+small : (most : ℕ) (m : Natural) (v : ℕ) → countTo most m ≡ count.Is v → v ≤ most
+unfolding countTo
+small most (Number n) v e = by-test (leb n most) refl e
+  where
+    by-test : (b : Bool) → leb n most ≡ b → cond b (count.Is n) (count.Not BeyondType) ≡ count.Is v → v ≤ most
+    by-test true h q = let same : n ≡ v = cc in rw same at (leb→le n most (rw h tt))
+    by-test false h q = not-is _ _ q
+small most NoNumber v e = not-is _ _ e
+
+-- a number that is read as a byte is one
+pub byte-small : (m : Natural) (v : ℕ) (r : Count) → r ≡ byteOf m → r ≡ count.Is v → v ≤ 255
+byte-small m v r p e = small 255 m v (sym p ∙ e)
 
 pub plain-high : (v : ℕ) → 2147483647 < v → signed.Not BeyondType ≡ signedOf (Plain v)
 unfolding signedOf

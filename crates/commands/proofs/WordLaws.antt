@@ -45,6 +45,11 @@ unfolding pieces firstAt
 word-second [] = refl
 word-second (b ∷ t) = rw (pieces-step 32 (b ∷ t) _ refl (omega arith)) (word-first (afterWord (b ∷ t)))
 
+pub word-third : (s : List ℕ) → word 2 (wordsOf s) ≡ firstField (afterWord (afterWord s))
+unfolding pieces firstAt
+word-third [] = refl
+word-third (b ∷ t) = rw (pieces-step 32 (b ∷ t) _ refl (omega arith)) (word-second (afterWord (b ∷ t)))
+
 -- ---- a byte in a text
 
 pub holds-first : (b : ℕ) (s : List ℕ) → ltb (firstAt b s) (length s) ≡ holdsByte b s

@@ -110,6 +110,7 @@ unfoldable pub showAsked : List (List ℕ) → Row → Command
 showAsked [] row = Other (request.Show row All)
 showAsked (k ∷ more) row = withNumber (number k) (λ v. Other (request.Show row (First v)))
 
+-- Numbers are judged from the left, each by its spelling and its size before the next; so the byte of `update` comes last.
 unfoldable pub asked : Verb → List (List ℕ) → Command
 asked verb.N words = withNumber (number (word 0 words)) (λ v. Other (request.SetN v))
 asked verb.M words = withNumber (number (word 0 words)) (λ v. Other (request.SetM v))
@@ -119,7 +120,7 @@ asked verb.Gr words = Other request.ReadGr
 asked verb.Co words = Other request.ReadCo
 asked verb.Build words = Other (request.Call call.Build)
 asked verb.Check words = Other (request.Call call.Check)
-asked verb.Update words = withPair (pairIn words) (λ arc weight. Other (request.Call (call.Update arc weight)))
+asked verb.Update words = withPair (pairIn words) (λ arc weight. withNumber (byte (word 2 words)) (λ b. Other (request.Call (call.Update arc weight b))))
 asked verb.Search words = withPair (pairIn words) (λ s t. Other (request.Call (call.Search s t)))
 asked verb.Boxed words = withPair (pairIn words) (λ s t. Other (request.Call (call.Boxed s t)))
 asked (verb.Write format) words = Other (request.Write format)

@@ -44,12 +44,13 @@ stretchOf row.Y = stretchFrom Numbers 4 1024 1024
 stretchOf row.Boxes = stretchFrom Numbers 5 2048 16384
 stretchOf row.Route = stretchFrom Counts 6 12288 1024
 stretchOf row.Text = stretchFrom Bytes 7 0 40960
+stretchOf row.Closed = stretchFrom Bytes 8 40960 4096
 
 abbrev pub allRows : List Row
-allRows = row.Tails ∷ row.Heads ∷ row.Weights ∷ row.X ∷ row.Y ∷ row.Boxes ∷ row.Route ∷ row.Text ∷ []
+allRows = row.Tails ∷ row.Heads ∷ row.Weights ∷ row.X ∷ row.Y ∷ row.Boxes ∷ row.Route ∷ row.Text ∷ row.Closed ∷ []
 
 abbrev pub rowNames : List (List ℕ)
-rowNames = wordsOf (bytes "tails heads weights x y boxes route text")
+rowNames = wordsOf (bytes "tails heads weights x y boxes route text closed")
 
 -- ----
 

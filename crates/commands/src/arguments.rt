@@ -2,7 +2,7 @@
 ghost use mathlib.Core.Path.{_≡_};
 ghost use Rattle.commands.specs.Words.{wordsOf};
 ghost use Rattle.commands.specs.Commands.{pairIn, asked};
-ghost use Rattle.commands.specs.declared.verbs.Verb.the-variants.{Lend, Show};
+ghost use Rattle.commands.specs.declared.verbs.Verb.the-variants.{Lend, Show, Update};
 use crate::Call;
 use crate::Command;
 use crate::Fault;
@@ -11,6 +11,7 @@ use crate::Shown;
 use crate::faults::Judged;
 use crate::faults::judge_values;
 use crate::numbers::Count;
+use crate::numbers::read_byte;
 use crate::numbers::read_count;
 use crate::rows::RowName;
 use crate::rows::row_of;
@@ -79,6 +80,22 @@ fn show_of(words: &[u8]) -> Command
     }
 }
 
+// `update`: an arc and its new weight, then its new byte.
+fn update_of(words: &[u8]) -> Command
+    ensures { λ r. ⌜ r ≡ asked Update (wordsOf (now (words .entry))) ⌝ }
+{
+    let pair = read_pair(words);
+    let after_arc = after_word(words);
+    let byte = read_byte(first_word(after_word(after_arc)));
+    match pair {
+        Pair::Not(fault) => Command::Faulty(fault),
+        Pair::Are(arc, weight) => match byte {
+            Count::Not(fault) => Command::Faulty(fault),
+            Count::Is(b) => Command::Other(Request::Call(Call::Update(arc, weight, b as u8))),
+        },
+    }
+}
+
 // The command of a line whose first word is `verb` and whose other words are `words`.
 pub fn ask(verb: Verb, words: &[u8]) -> Command
     ensures { λ r. ⌜ r ≡ asked verb (wordsOf (now (words .entry))) ⌝ }
@@ -98,10 +115,7 @@ pub fn ask(verb: Verb, words: &[u8]) -> Command
         Verb::Co => Command::Other(Request::ReadCo),
         Verb::Build => Command::Other(Request::Call(Call::Build)),
         Verb::Check => Command::Other(Request::Call(Call::Check)),
-        Verb::Update => match read_pair(words) {
-            Pair::Are(arc, weight) => Command::Other(Request::Call(Call::Update(arc, weight))),
-            Pair::Not(fault) => Command::Faulty(fault),
-        },
+        Verb::Update => update_of(words),
         Verb::Search => match read_pair(words) {
             Pair::Are(s, t) => Command::Other(Request::Call(Call::Search(s, t))),
             Pair::Not(fault) => Command::Faulty(fault),

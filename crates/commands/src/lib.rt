@@ -39,7 +39,7 @@ pub enum Fault {
 pub enum Call {
     Build,
     Check,
-    Update(u32, u32),
+    Update(u32, u32, u8),
     Search(u32, u32),
     Boxed(u32, u32),
 }

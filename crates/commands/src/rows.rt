@@ -12,6 +12,7 @@ pub enum Row {
     Boxes,
     Route,
     Text,
+    Closed,
 }
 
 pub enum RowName {
@@ -69,12 +70,13 @@ impl Row {
             Row::Boxes => stretch_from(Kind::Numbers, 5, 2048, 16384),
             Row::Route => stretch_from(Kind::Counts, 6, 12288, 1024),
             Row::Text => stretch_from(Kind::Bytes, 7, 0, 40960),
+            Row::Closed => stretch_from(Kind::Bytes, 8, 40960, 4096),
         }
     }
 }
 
 // The names of the rows, in the order of their numbers.
-pub const ROW_NAMES: [u8; 40] = *b"tails heads weights x y boxes route text";
+pub const ROW_NAMES: [u8; 47] = *b"tails heads weights x y boxes route text closed";
 
 // The row that a word names.
 pub fn row_of(word: &[u8]) -> RowName
@@ -89,6 +91,7 @@ pub fn row_of(word: &[u8]) -> RowName
         5 => RowName::Known(Row::Boxes),
         6 => RowName::Known(Row::Route),
         7 => RowName::Known(Row::Text),
+        8 => RowName::Known(Row::Closed),
         _ => RowName::Unknown,
     }
 }

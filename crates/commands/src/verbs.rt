@@ -92,7 +92,7 @@ pub fn takes(verb: Verb, words: usize) -> bool
         Verb::Co => words == 2,
         Verb::Build => words == 1,
         Verb::Check => words == 1,
-        Verb::Update => words == 3,
+        Verb::Update => words == 4,
         Verb::Search => words == 3,
         Verb::Boxed => words == 3,
         Verb::Write(_format) => words == 2,

@@ -1,4 +1,4 @@
--- Rows that are given back as they were leave the desk as it was.
+-- Rows that are given back as they were leave the stores as they were.
 use Prim.Native.Nat.{ℕ, zero, suc, _+_, _≤_}
 use mathlib.Core.Path.{_≡_, refl, ap}
 use mathlib.Core.List.{List, [], _∷_, _++_}
@@ -6,12 +6,9 @@ use native.Mathlib.Omega.{arith}
 use native.Mathlib.Nat.{le-of-suc-le-suc, not-suc-le-zero}
 use lib.ListN.{length, take, drop, take-append-drop}
 use lib.Seq.{drop-drop}
-use Rattle.commands.specs.Rows.{stretchOf}
-use Rattle.commands.specs.declared.rows.Row.the-variants.{Weights, Boxes, Route}
 use Rattle.commands.specs.declared.rows.Stretch.{Stretch}
 use Rattle.lending.specs.Stores.{lentAt, partAt, putAt}
 use Rattle.lending.specs.declared.rows.Lent.{Lent}
-use Rattle.desk.specs.Desk.{Desk, lentRows, givenBack}
 
 whole : {A : Type 0} (n : ℕ) (l : List A) → take n l ++ drop (length (take n l)) l ≡ l
 whole zero l = refl
@@ -52,7 +49,3 @@ past (suc a) (suc b) (suc end) values (x ∷ store) e h = past a b end values st
 pub part-past : {A : Type 0} (lent : Lent) (s later : Stretch) (values store : List A) → s .start + length values ≤ later .start → partAt lent later (putAt s values store) ≡ partAt lent later store
 unfolding partAt putAt
 part-past lent s later values store h = ap (take (lentAt lent later)) (past (s .start) (later .start) (s .start + length values) values store refl h)
-
-pub given-same : (d : Desk) → givenBack (lentRows d) d ≡ d
-given-same d =
-    rw (put-same (d .lent) (stretchOf Weights) (d .all .counts), put-same (d .lent) (stretchOf Boxes) (d .all .numbers), put-same (d .lent) (stretchOf Route) (d .all .counts))

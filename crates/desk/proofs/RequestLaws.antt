@@ -5,18 +5,19 @@ use Prim.Native.Nat.{ℕ, _≤_}
 use native.Mathlib.Omega.{arith}
 use lib.ListN.{length}
 use lib.IntN.{ℤ}
+use Rattle.walks.specs.Rows.{rows}
 use Rattle.files.specs.File.{Held, unread}
 use Rattle.pages.specs.Page.{Puts, Printed}
 use Rattle.commands.specs.Rows.{stretchOf, placesOf}
 use Rattle.commands.specs.declared.Call.{Call}
 use Rattle.commands.specs.declared.Request.{Request}
 use Rattle.commands.specs.declared.Request.the-variants as request
-use Rattle.commands.specs.declared.rows.Row.the-variants.{Tails, Heads, Weights, X, Y, Boxes, Route}
+use Rattle.commands.specs.declared.rows.Row.the-variants.{Tails, Heads, Weights, Closed, X, Y, Boxes, Route}
 use Rattle.lending.specs.Stores.{putAt}
 use Rattle.calls.specs.Calls.{given, Makes}
 use Rattle.calls.specs.Texts.{ReadsGraph, ReadsPlaces}
 use Rattle.calls.specs.declared.Sizes.{Sizes}
-use Rattle.desk.specs.Desk.{Desk, desk, row, givenBack}
+use Rattle.desk.specs.Desk.{Desk, desk, row, arcRows, givenBack}
 use Rattle.desk.specs.Requests.{AsksNoFile, Meets, Met}
 use Rattle.desk.proofs.DeskLaws.{put-same, part-past}
 use Rattle.desk.proofs.Unique.{meets-any}
@@ -36,38 +37,40 @@ module _ {held : Held} {before after : Desk} {r case : Request} {page page′ : 
 -- ---- the rows that were copied held what was lent, and what is left in them is put back
 
 module _ (d : Desk) {page page′ : List ℕ} {end : ℕ} where
-  module _ {c : Call} {tails heads weights : List ℕ} {x y boxes : List ℤ} (a : tails ≡ row Tails d) (b : heads ≡ row Heads d) (e : weights ≡ row Weights d)
-      (f : x ≡ row X d) (g : y ≡ row Y d) (h : boxes ≡ row Boxes d) where
-    pub worked-as : {weights′ counts : List ℕ} {boxes′ numbers : List ℤ}
-        → ((route : List ℕ) → Printed (λ reply. Makes (d .sizes) (given tails heads weights x y boxes route) c reply (given tails heads weights′ x y boxes′ route)) page end page′)
-        → counts ≡ putAt (stretchOf Weights) weights′ (d .all .counts) → numbers ≡ putAt (stretchOf Boxes) boxes′ (d .all .numbers)
-        → length weights′ ≤ placesOf Weights
-        → Met unread d (request.Call c) (desk (d .sizes) (d .lent) counts numbers (d .all .bytes)) page end page′
-    worked-as {weights′ = weights′} {boxes′ = boxes′} r p q few =
+  module _ {c : Call} {tails heads weights closures : List ℕ} {x y boxes : List ℤ} (a : tails ≡ row Tails d) (b : heads ≡ row Heads d) (e : weights ≡ row Weights d)
+      (o : closures ≡ row Closed d) (f : x ≡ row X d) (g : y ≡ row Y d) (h : boxes ≡ row Boxes d) where
+    pub worked-as : {weights′ closures′ counts bytes : List ℕ} {boxes′ numbers : List ℤ}
+        → ((route : List ℕ) → Printed (λ reply. Makes (d .sizes) (given (rows tails heads weights closures) x y boxes route) c reply (given (rows tails heads weights′ closures′) x y boxes′ route)) page end page′)
+        → counts ≡ putAt (stretchOf Weights) weights′ (d .all .counts) → bytes ≡ putAt (stretchOf Closed) closures′ (d .all .bytes)
+        → numbers ≡ putAt (stretchOf Boxes) boxes′ (d .all .numbers) → length weights′ ≤ placesOf Weights
+        → Met unread d (request.Call c) (desk (d .sizes) (d .lent) counts numbers bytes) page end page′
+    worked-as {weights′ = weights′} {closures′ = closures′} {boxes′ = boxes′} r p v q few =
         let made = r (row Route d) in
         let same = put-same (d .lent) (stretchOf Route) (putAt (stretchOf Weights) weights′ (d .all .counts)) in
         let kept = part-past (d .lent) (stretchOf Weights) (stretchOf Route) weights′ (d .all .counts) (omega (arith, few)) in
-        let left = given (row Tails d) (row Heads d) weights′ (row X d) (row Y d) boxes′ (row Route d) in
-        let says : Meets unread d (request.Call c) (made .text) (givenBack left d) = Meets.called (rw (a, b, e, f, g, h) at (made .says)) in
-        record { text = made .text; says = rw (p, q) (rw (rw kept at same) at says); puts = made .puts }
+        let left = given (rows (row Tails d) (row Heads d) weights′ closures′) (row X d) (row Y d) boxes′ (row Route d) in
+        let says : Meets unread d (request.Call c) (made .text) (givenBack left d) = Meets.called (rw (a, b, e, o, f, g, h) at (made .says)) in
+        record { text = made .text; says = rw (p, v, q) (rw (rw kept at same) at says); puts = made .puts }
 
     pub travelled-as : {route route′ counts : List ℕ} → route ≡ row Route d
-        → Printed (λ reply. Makes (d .sizes) (given tails heads weights x y boxes route) c reply (given tails heads weights x y boxes route′)) page end page′
+        → Printed (λ reply. Makes (d .sizes) (given (rows tails heads weights closures) x y boxes route) c reply (given (rows tails heads weights closures) x y boxes route′)) page end page′
         → counts ≡ putAt (stretchOf Route) route′ (d .all .counts)
         → Met unread d (request.Call c) (desk (d .sizes) (d .lent) counts (d .all .numbers) (d .all .bytes)) page end page′
     travelled-as {route′ = route′} i r p =
-        let left = given (row Tails d) (row Heads d) (row Weights d) (row X d) (row Y d) (row Boxes d) route′ in
-        let says : Meets unread d (request.Call c) (r .text) (givenBack left d) = Meets.called (rw (a, b, e, f, g, h, i) at (r .says)) in
+        let left = given (arcRows d) (row X d) (row Y d) (row Boxes d) route′ in
+        let says : Meets unread d (request.Call c) (r .text) (givenBack left d) = Meets.called (rw (a, b, e, o, f, g, h, i) at (r .says)) in
         let one = put-same (d .lent) (stretchOf Weights) (d .all .counts) in
         let two = put-same (d .lent) (stretchOf Boxes) (d .all .numbers) in
-        record { text = r .text; says = rw p (rw (one, two) at says); puts = r .puts }
+        let three = put-same (d .lent) (stretchOf Closed) (d .all .bytes) in
+        record { text = r .text; says = rw p (rw (one, two, three) at says); puts = r .puts }
 
-  pub graph-as : {held : Held} {tails heads weights tails′ heads′ weights′ one two three : List ℕ} {next : Sizes}
-      → tails ≡ row Tails d → heads ≡ row Heads d → weights ≡ row Weights d
-      → Printed (λ reply. ReadsGraph held (d .sizes) tails heads weights reply next tails′ heads′ weights′) page end page′
+  pub graph-as : {held : Held} {tails heads weights closures tails′ heads′ weights′ closures′ one two three bytes : List ℕ} {next : Sizes}
+      → tails ≡ row Tails d → heads ≡ row Heads d → weights ≡ row Weights d → closures ≡ row Closed d
+      → Printed (λ reply. ReadsGraph held (d .sizes) (rows tails heads weights closures) reply next (rows tails′ heads′ weights′ closures′)) page end page′
       → one ≡ putAt (stretchOf Tails) tails′ (d .all .counts) → two ≡ putAt (stretchOf Heads) heads′ one → three ≡ putAt (stretchOf Weights) weights′ two
-      → Met held d request.ReadGr (desk next (d .lent) three (d .all .numbers) (d .all .bytes)) page end page′
-  graph-as a b e r p q s = record { text = r .text; says = rw (s, q, p) (Meets.gr (rw (a, b, e) at (r .says))); puts = r .puts }
+      → bytes ≡ putAt (stretchOf Closed) closures′ (d .all .bytes)
+      → Met held d request.ReadGr (desk next (d .lent) three (d .all .numbers) bytes) page end page′
+  graph-as a b e o r p q s v = record { text = r .text; says = rw (s, q, p, v) (Meets.gr (rw (a, b, e, o) at (r .says))); puts = r .puts }
 
   pub places-as : {held : Held} {x y x′ y′ one two : List ℤ}
       → x ≡ row X d → y ≡ row Y d

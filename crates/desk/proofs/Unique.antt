@@ -15,7 +15,7 @@ pub meets-unique : {held : Held} {d : Desk} {r : Request} {reply reply′ : List
 meets-unique Meets.set-n Meets.set-n = (refl, refl)
 meets-unique Meets.set-m Meets.set-m = (refl, refl)
 meets-unique Meets.show Meets.show = (refl, refl)
-meets-unique (Meets.gr g) (Meets.gr g′) = let e = reads-graph-unique g g′ in (e .0, rw (e .1, e .2, e .3, e .4))
+meets-unique (Meets.gr g) (Meets.gr g′) = let e = reads-graph-unique g g′ in (e .0, rw (e .1, e .2))
 meets-unique (Meets.co p) (Meets.co p′) = let e = reads-places-unique p p′ in (e .0, rw (e .1, e .2))
 meets-unique (Meets.called c) (Meets.called c′) = let e = makes-unique c c′ in (e .0, rw (e .1))
 meets-unique (Meets.written w) (Meets.written w′) = let e = writes-unique _ _ _ _ _ _ _ w w′ in (ap writtenLine (e .0), rw (e .1))

@@ -4,7 +4,7 @@ use mathlib.Core.Path.{_≡_, refl}
 use mathlib.Core.List.{List, _++_}
 use lib.IntN.{ℤ}
 use lib.ListN.{length, take, drop}
-use Rattle.walks.specs.Rows.{rows}
+use Rattle.walks.specs.Rows.{openRows}
 use Rattle.rules.specs.declared.Refusal.{Refusal}
 use Rattle.files.specs.File.{Held, text, unread}
 use Rattle.pages.specs.Page.{Puts, Replied}
@@ -26,7 +26,7 @@ use Rattle.desk.specs.Requests.{DeskWrites, Meets, Met, SavesDesk}
 -- rows that were read where they stand are the desk's
 pub rows-written : (d : Desk) (format : Format) {tails heads weights : List ℕ} {x y : List ℤ} {r : WriteReply} {old new : List ℕ}
     → tails ≡ row Tails d → heads ≡ row Heads d → weights ≡ row Weights d → x ≡ row X d → y ≡ row Y d
-    → TextWrites format (d .sizes) (rows tails heads weights) x y old r new → DeskWrites d format old r new
+    → TextWrites format (d .sizes) (openRows tails heads weights) x y old r new → DeskWrites d format old r new
 rows-written d format a b e f g w = rw (a, b, e, f, g) at w
 
 -- a text that was written has room in its row

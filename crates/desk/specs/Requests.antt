@@ -3,6 +3,7 @@ use Prim.Native.Nat.{ℕ}
 use mathlib.Core.List.{List}
 use lib.IntN.{ℤ}
 use lib.ListN.{length}
+use Rattle.walks.specs.Rows.{Rows}
 use Rattle.files.specs.File.{Held}
 use Rattle.pages.specs.Page.{Printed, Replied}
 use Rattle.commands.specs.declared.Call.{Call}
@@ -10,7 +11,7 @@ use Rattle.commands.specs.declared.Request.{Request}
 use Rattle.commands.specs.declared.Request.the-variants as request
 use Rattle.commands.specs.declared.Shown.{Shown}
 use Rattle.commands.specs.declared.rows.Row.{Row}
-use Rattle.commands.specs.declared.rows.Row.the-variants.{Tails, Heads, Weights, X, Y, Text}
+use Rattle.commands.specs.declared.rows.Row.the-variants.{X, Y, Text}
 use Rattle.commands.specs.declared.verbs.Format.{Format}
 use Rattle.replies.specs.Replies.{okLine, helpLine, writtenLine}
 use Rattle.replies.specs.Showing.{showLine}
@@ -19,11 +20,11 @@ use Rattle.calls.specs.Texts.{ReadsGraph, ReadsPlaces}
 use Rattle.calls.specs.Writing.{TextWrites, Saves}
 use Rattle.calls.specs.declared.Sizes.{Sizes}
 use Rattle.writing.specs.declared.WriteReply.{WriteReply}
-use Rattle.desk.specs.Desk.{Desk, row, arcRows, put, withSizes, lentRows, givenBack}
+use Rattle.desk.specs.Desk.{Desk, row, arcRows, textRows, put, putArcs, withSizes, lentRows, givenBack}
 
 -- a text of the desk's rows is written into another row, which held `old` and then holds `new`
 abbrev pub DeskWrites : Desk → Format → List ℕ → WriteReply → List ℕ → Type 0
-DeskWrites d format old r new = TextWrites format (d .sizes) (arcRows d) (row X d) (row Y d) old r new
+DeskWrites d format old r new = TextWrites format (d .sizes) (textRows d) (row X d) (row Y d) old r new
 
 -- a request's reply, and the desk that it leaves; a file that is asked for holds `held`
 pub data Meets (held : Held) (d : Desk) : Request → List ℕ → Desk → Type 0 where
@@ -31,9 +32,9 @@ pub data Meets (held : Held) (d : Desk) : Request → List ℕ → Desk → Type
   set-m : {v : ℕ} → Meets held d (request.SetM v) okLine (withSizes d (record { n = d .sizes .n; m = v }))
   show : {r : Row} {shown : Shown}
       → Meets held d (request.Show r shown) (showLine r shown (d .lent) (d .all)) d
-  gr : {reply : List ℕ} {sizes : Sizes} {tails heads weights : List ℕ}
-      → ReadsGraph held (d .sizes) (row Tails d) (row Heads d) (row Weights d) reply sizes tails heads weights
-      → Meets held d request.ReadGr reply (withSizes (put Weights weights (put Heads heads (put Tails tails d))) sizes)
+  gr : {reply : List ℕ} {sizes : Sizes} {R : Rows}
+      → ReadsGraph held (d .sizes) (arcRows d) reply sizes R
+      → Meets held d request.ReadGr reply (withSizes (putArcs R d) sizes)
   co : {reply : List ℕ} {x y : List ℤ}
       → ReadsPlaces held (d .sizes .n) (row X d) (row Y d) reply x y
       → Meets held d request.ReadCo reply (put Y y (put X x d))
@@ -63,4 +64,4 @@ Obeyed before asks after page end page′ = Replied (λ (held : Held) reply. Mee
 
 -- `save`: what `write` would put into the lent places of the row `text` goes to a file, which then holds `held`
 abbrev pub SavesDesk : Held → Desk → Format → List ℕ → Type 0
-SavesDesk held d format reply = Saves held format (d .sizes) (arcRows d) (row X d) (row Y d) (length (row Text d)) reply
+SavesDesk held d format reply = Saves held format (d .sizes) (textRows d) (row X d) (row Y d) (length (row Text d)) reply

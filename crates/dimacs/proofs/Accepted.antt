@@ -14,7 +14,7 @@ use Rattle.rules.proofs.AndLaws.{and-true}
 use Rattle.rules.proofs.JudgingLaws.{both-fine, passed}
 use Rattle.rules.specs.Paper.{Reply, refusal, accepted}
 use Rattle.rules.proofs.PaperLaws.{refusal-nonzero}
-use Rattle.rules.specs.Limits.{mostNodes, longestText}
+use Rattle.rules.specs.Limits.{mostNodes, mostArcs, longestText}
 use Rattle.rules.specs.Judging.{orElse, passes}
 use Rattle.rules.specs.declared.Refusal.{Refusal}
 use Rattle.rules.specs.declared.Refusal.the-variants.{TextTooLong, RowTooShort, BeyondLimits}
@@ -25,10 +25,10 @@ use Rattle.dimacs.specs.Gr.{grRules}
 use Rattle.dimacs.specs.Co.{coRules}
 use Rattle.dimacs.specs.Texts.{Outcome, read, refused, readText}
 use Rattle.dimacs.specs.Rules.{columnOf, axisOf}
-use Rattle.dimacs.specs.Rows.{row}
+use Rattle.dimacs.specs.Rows.{row, openRow}
 use Rattle.dimacs.specs.Reading.{readGr, grSays, readCo, coSays}
 use Rattle.dimacs.specs.Promise.{GrPromise, CoPromise}
-use Rattle.dimacs.specs.Accepted.{GrLimits, CoLimits}
+use Rattle.dimacs.specs.Accepted.{GrLimits, GrOpen, CoLimits}
 use Rattle.dimacs.specs.declared.GrReply.the-variants.{Read as GrRead}
 use Rattle.dimacs.specs.declared.CoReply.the-variants.{Read as CoRead}
 use Rattle.dimacs.specs.declared.format.Format.the-variants.{Graph, Coordinates}
@@ -36,6 +36,8 @@ use Rattle.dimacs.specs.declared.rows.Column.the-variants.{First, Second
 use Rattle.dimacs.specs.declared.rows.Axis.the-variants.{X, Y}
 use Rattle.dimacs.proofs.Fairness.{Inside, inside}
 use Rattle.dimacs.proofs.Sound.{sound, onward}
+use Rattle.dimacs.proofs.Replies.{gr-room}
+use Rattle.dimacs.proofs.RowLaws.{opened-each, opened-long}
 
 -- no refusal is an acceptance
 pub not-accepted : (r : Refusal) (results : List ℕ) → refusal r ≡ accepted results → ⊥
@@ -81,14 +83,14 @@ gr-lines text p lines a b c e =
     }
 
 -- what was accepted was read
-pub gr-read : (text a b c : List ℕ) (p : Numbers) (lines : List Numbers) → readGr text a b c ≡ read p lines → readText Graph text ≡ read p lines
+pub gr-read : (text a b c d : List ℕ) (p : Numbers) (lines : List Numbers) → readGr text a b c d ≡ read p lines → readText Graph text ≡ read p lines
 unfolding readGr
-gr-read text a b c p lines e = onward _ _ _ _ e .1
+gr-read text a b c d p lines e = onward _ _ _ _ e .1
 
-gr-limits : (text a b c : List ℕ) (n m : ℕ) → grSays (readGr text a b c) ≡ accepted (n ∷ m ∷ [])
-    → GrLimits n m (row (columnOf First) (readGr text a b c) a) (row (columnOf Second) (readGr text a b c) b) (row (columnOf Third) (readGr text a b c) c)
+gr-limits : (text a b c d : List ℕ) (n m : ℕ) → grSays (readGr text a b c d) ≡ accepted (n ∷ m ∷ [])
+    → GrLimits n m (row (columnOf First) (readGr text a b c d) a) (row (columnOf Second) (readGr text a b c d) b) (row (columnOf Third) (readGr text a b c d) c)
 unfolding grSays row
-gr-limits text a b c n m e = by-outcome (readGr text a b c) (gr-read text a b c) e
+gr-limits text a b c d n m e = by-outcome (readGr text a b c d) (gr-read text a b c d) e
   where
     by-outcome : (o : Outcome) → ((p : Numbers) (lines : List Numbers) → o ≡ read p lines → readText Graph text ≡ read p lines) → grSays o ≡ accepted (n ∷ m ∷ [])
         → GrLimits n m (row (columnOf First) o a) (row (columnOf Second) o b) (row (columnOf Third) o c)
@@ -97,6 +99,31 @@ gr-limits text a b c n m e = by-outcome (readGr text a b c) (gr-read text a b c)
         let em : p .second ≡ m = ap (λ (r : Reply). getD (r .values) 1 0) d in
         rw (← en, ← em) (gr-lines text p lines (drop (length lines) a) (drop (length lines) b) (drop (length lines) c) (from p lines refl))
     by-outcome (refused r) from d = absurd (not-accepted r (n ∷ m ∷ []) d)
+
+-- and its rows were long enough
+gr-lent : (text a b c d : List ℕ) (p : Numbers) (lines : List Numbers) → readGr text a b c d ≡ read p lines → 2048 ≤ length d
+unfolding readGr
+gr-lent text a b c d p lines e =
+    let wide = leb mostArcs (length a) && leb mostArcs (length b) && leb mostArcs (length c) && leb mostArcs (length d) in
+    let f = both-fine (passes (leb (length text) longestText) TextTooLong) (orElse (passes wide RowTooShort) Fine) (onward _ _ _ _ e .0) in
+    let g = both-fine (passes wide RowTooShort) Fine (f .1) in
+    gr-room a b c d (passed _ _ (g .0)) .3
+
+gr-open : (text a b c d : List ℕ) (n m : ℕ) → grSays (readGr text a b c d) ≡ accepted (n ∷ m ∷ []) → GrOpen m d (openRow (readGr text a b c d) d)
+unfolding grSays openRow
+gr-open text a b c d n m e = by-outcome (readGr text a b c d) (gr-read text a b c d) (gr-lent text a b c d) e
+  where
+    by-outcome : (o : Outcome) → ((p : Numbers) (lines : List Numbers) → o ≡ read p lines → readText Graph text ≡ read p lines)
+        → ((p : Numbers) (lines : List Numbers) → o ≡ read p lines → 2048 ≤ length d) → grSays o ≡ accepted (n ∷ m ∷ []) → GrOpen m d (openRow o d)
+    by-outcome (read p lines) from room f =
+        let em : p .second ≡ m = ap (λ (r : Reply). getD (r .values) 1 0) f in
+        let count = gr-count text p lines (from p lines refl) in
+        let long = room p lines refl in
+        record {
+          each = λ i h. opened-each (length lines) (drop (length lines) d) i (omega (arith, em, count .1));
+          long = opened-long (length lines) d (omega (arith, count .0, count .1, long));
+        }
+    by-outcome (refused r) from room f = absurd (not-accepted r (n ∷ m ∷ []) f)
 
 -- ---- .co
 
@@ -155,8 +182,12 @@ co-nodes text n a b p lines e =
 
 -- ---- the rows that a reader leaves after it accepted
 
-pub read-gr-limits : (text a b c : List ℕ) (n m : ℕ) (a′ b′ c′ : List ℕ) → GrPromise text a b c (GrRead n m) a′ b′ c′ → GrLimits n m a′ b′ c′
-read-gr-limits text a b c n m a′ b′ c′ p = rw (p .tails-left, p .heads-left, p .weights-left) (gr-limits text a b c n m (sym (p .reply)))
+module _ (text a b c d : List ℕ) (n m : ℕ) (a′ b′ c′ d′ : List ℕ) (p : GrPromise text a b c d (GrRead n m) a′ b′ c′ d′) where
+  pub read-gr-limits : GrLimits n m a′ b′ c′
+  read-gr-limits = rw (p .tails-left, p .heads-left, p .weights-left) (gr-limits text a b c d n m (sym (p .reply)))
+
+  pub read-gr-open : GrOpen m d d′
+  read-gr-open = rw (p .closures-left) (gr-open text a b c d n m (sym (p .reply)))
 
 pub read-co-limits : (text : List ℕ) (n : ℕ) (a b a′ b′ : List ℤ) → CoPromise text n a b CoRead a′ b′ → CoLimits n a′ b′
 read-co-limits text n a b a′ b′ p = rw (p .x-left, p .y-left) (co-limits text n a b (sym (p .reply)))

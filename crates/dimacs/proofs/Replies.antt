@@ -5,7 +5,7 @@ use mathlib.Core.Bool.{Bool, true, false, _&&_}
 use Prim.Native.Nat.{ℕ, _≤_, _<_}
 use lib.Dec.{leb}
 use lib.IntN.{ℤ}
-use lib.ListN.{length, drop}
+use lib.ListN.{length, drop, replicate}
 use borrow.Author.Tests.{leb-true, le-leb, lt-leb}
 use Rattle.rules.proofs.AndLaws.{and-true}
 use Rattle.rules.specs.declared.Refusal.{Refusal}
@@ -15,7 +15,7 @@ use Rattle.rules.specs.declared.Judged.the-variants.{Fine, Refused}
 use Rattle.scan.specs.declared.holding.Numbers.{Numbers}
 use Rattle.dimacs.specs.Texts.{Outcome, read, refused, onJudged, readText}
 use Rattle.dimacs.specs.Rules.{columnOf, axisOf}
-use Rattle.dimacs.specs.Rows.{row}
+use Rattle.dimacs.specs.Rows.{row, openRow}
 use Rattle.dimacs.specs.Reading.{readGr, grSays, readCo, coSays}
 use Rattle.dimacs.specs.Promise.{GrPromise, CoPromise}
 use Rattle.dimacs.specs.declared.format.Format.the-variants.{Graph, Coordinates}
@@ -35,31 +35,33 @@ refused-outcome o p j x e f = sym e ∙ rw f
 
 -- ---- .gr
 
-module _ (text tails heads weights : List ℕ) where
+module _ (text tails heads weights closures : List ℕ) where
   abbrev long : Bool
-  long = leb 2048 (length tails) && leb 2048 (length heads) && leb 2048 (length weights)
+  long = leb 2048 (length tails) && leb 2048 (length heads) && leb 2048 (length weights) && leb 2048 (length closures)
 
-  pub gr-too-long : 65536 < length text → readGr text tails heads weights ≡ refused TextTooLong
+  pub gr-too-long : 65536 < length text → readGr text tails heads weights closures ≡ refused TextTooLong
   unfolding readGr onJudged
   gr-too-long h = rw (lt-leb _ _ h)
 
-  pub gr-too-short : length text ≤ 65536 → long ≡ false → readGr text tails heads weights ≡ refused RowTooShort
+  pub gr-too-short : length text ≤ 65536 → long ≡ false → readGr text tails heads weights closures ≡ refused RowTooShort
   unfolding readGr onJudged
   gr-too-short h i = rw (le-leb _ _ h, i)
 
-  pub gr-text : length text ≤ 65536 → long ≡ true → readGr text tails heads weights ≡ readText Graph text
+  pub gr-text : length text ≤ 65536 → long ≡ true → readGr text tails heads weights closures ≡ readText Graph text
   unfolding readGr onJudged
   gr-text h i = rw (le-leb _ _ h, i)
 
-  pub gr-out : (r : Refusal) → readGr text tails heads weights ≡ refused r → GrPromise text tails heads weights (GrRefused r) tails heads weights
-  unfolding grSays row
-  gr-out r e = record { reply = rw e; tails-left = rw e; heads-left = rw e; weights-left = rw e }
+  pub gr-out : (r : Refusal) → readGr text tails heads weights closures ≡ refused r → GrPromise text tails heads weights closures (GrRefused r) tails heads weights closures
+  unfolding grSays row openRow
+  gr-out r e = record { reply = rw e; tails-left = rw e; heads-left = rw e; weights-left = rw e; closures-left = rw e }
 
-  pub gr-in : (p : Numbers) (lines : List Numbers) (a b c : List ℕ) → readGr text tails heads weights ≡ read p lines → length lines ≡ p .second
+  pub gr-in : (p : Numbers) (lines : List Numbers) (a b c d : List ℕ) → readGr text tails heads weights closures ≡ read p lines → length lines ≡ p .second
       → a ≡ map (columnOf First) lines ++ drop (p .second) tails → b ≡ map (columnOf Second) lines ++ drop (p .second) heads
-      → c ≡ map (columnOf Third) lines ++ drop (p .second) weights → GrPromise text tails heads weights (GrRead (p .first) (p .second)) a b c
-  unfolding grSays row
-  gr-in p lines a b c e long f g h = record { reply = rw e; tails-left = rw (e, long) f; heads-left = rw (e, long) g; weights-left = rw (e, long) h }
+      → c ≡ map (columnOf Third) lines ++ drop (p .second) weights → d ≡ replicate (p .second) 0 ++ drop (p .second) closures
+      → GrPromise text tails heads weights closures (GrRead (p .first) (p .second)) a b c d
+  unfolding grSays row openRow
+  gr-in p lines a b c d e long f g h i =
+      record { reply = rw e; tails-left = rw (e, long) f; heads-left = rw (e, long) g; weights-left = rw (e, long) h; closures-left = rw (e, long) i }
 
 -- ---- .co
 
@@ -94,12 +96,14 @@ module _ (text : List ℕ) (n : ℕ) (x y : List ℤ) where
 
 -- ---- there is room
 
-pub gr-room : (tails heads weights : List ℕ) → leb 2048 (length tails) && leb 2048 (length heads) && leb 2048 (length weights) ≡ true
-    → (2048 ≤ length tails) × (2048 ≤ length heads) × (2048 ≤ length weights)
-gr-room tails heads weights e =
-    let d = and-true (leb 2048 (length tails) && leb 2048 (length heads)) (leb 2048 (length weights)) e in
-    let f = and-true (leb 2048 (length tails)) (leb 2048 (length heads)) (d .0) in
-    (leb-true _ _ (f .0), leb-true _ _ (f .1), leb-true _ _ (d .1))
+pub gr-room : (tails heads weights closures : List ℕ)
+    → leb 2048 (length tails) && leb 2048 (length heads) && leb 2048 (length weights) && leb 2048 (length closures) ≡ true
+    → (2048 ≤ length tails) × (2048 ≤ length heads) × (2048 ≤ length weights) × (2048 ≤ length closures)
+gr-room tails heads weights closures e =
+    let d = and-true (leb 2048 (length tails) && leb 2048 (length heads) && leb 2048 (length weights)) (leb 2048 (length closures)) e in
+    let f = and-true (leb 2048 (length tails) && leb 2048 (length heads)) (leb 2048 (length weights)) (d .0) in
+    let g = and-true (leb 2048 (length tails)) (leb 2048 (length heads)) (f .0) in
+    (leb-true _ _ (g .0), leb-true _ _ (g .1), leb-true _ _ (f .1), leb-true _ _ (d .1))
 
 pub two-tests : (a b c d : ℕ) → leb a b && leb c d ≡ true → (a ≤ b) × (c ≤ d)
 two-tests a b c d e = let f = and-true (leb a b) (leb c d) e in (leb-true _ _ (f .0), leb-true _ _ (f .1))

@@ -30,10 +30,16 @@ co-reply-injective CoRead (CoRefused s) e = absurd (not-accepted s [] (sym e))
 co-reply-injective (CoRefused r) CoRead e = absurd (not-accepted r [] e)
 co-reply-injective (CoRefused r) (CoRefused s) e = ap CoRefused (refusal-injective r s e)
 
-pub read-gr-unique : (text tails heads weights : List ℕ) (r s : GrReply) (a b c a′ b′ c′ : List ℕ)
-    → GrPromise text tails heads weights r a b c → GrPromise text tails heads weights s a′ b′ c′ → (r ≡ s) × (a ≡ a′) × (b ≡ b′) × (c ≡ c′)
-read-gr-unique text tails heads weights r s a b c a′ b′ c′ p q =
-    (gr-reply-injective r s (p .reply ∙ sym (q .reply)), p .tails-left ∙ sym (q .tails-left), p .heads-left ∙ sym (q .heads-left), p .weights-left ∙ sym (q .weights-left))
+pub read-gr-unique : (text tails heads weights closures : List ℕ) (r s : GrReply) (a b c d a′ b′ c′ d′ : List ℕ)
+    → GrPromise text tails heads weights closures r a b c d → GrPromise text tails heads weights closures s a′ b′ c′ d′
+    → (r ≡ s) × (a ≡ a′) × (b ≡ b′) × (c ≡ c′) × (d ≡ d′)
+read-gr-unique text tails heads weights closures r s a b c d a′ b′ c′ d′ p q = (
+  gr-reply-injective r s (p .reply ∙ sym (q .reply)),
+  p .tails-left ∙ sym (q .tails-left),
+  p .heads-left ∙ sym (q .heads-left),
+  p .weights-left ∙ sym (q .weights-left),
+  p .closures-left ∙ sym (q .closures-left),
+)
 
 pub read-co-unique : (text : List ℕ) (n : ℕ) (x y : List ℤ) (r s : CoReply) (a b a′ b′ : List ℤ)
     → CoPromise text n x y r a b → CoPromise text n x y s a′ b′ → (r ≡ s) × (a ≡ a′) × (b ≡ b′)

@@ -20,7 +20,7 @@ use Rattle.dimacs.specs.Co.{coLine, coRules}
 use Rattle.dimacs.specs.Judgement.{problemJudged, dataJudged, judged, ended}
 use Rattle.dimacs.specs.Texts.{Outcome, read, refused, next, onJudged, readLines, readText}
 use Rattle.dimacs.specs.Rules.{columnOf, axisOf}
-use Rattle.dimacs.specs.Rows.{row}
+use Rattle.dimacs.specs.Rows.{row, openRow}
 use Rattle.dimacs.specs.Reading.{readGr, grSays, readCo, coSays}
 use Rattle.dimacs.specs.declared.format.Format.the-variants.{Graph, Coordinates}
 use Rattle.dimacs.specs.declared.rows.Column.the-variants.{First, Second, Third}
@@ -55,13 +55,15 @@ unfolding netGr netCo bytes opening pieces firstAt sameBytes valueFrom naturalOf
 worked-texts = (refl, refl, refl, refl, refl, refl, refl, refl)
 
 -- whatever rows are lent
-pub net-gr-read : (tails heads weights : List ℕ) → leb 2048 (length tails) && leb 2048 (length heads) && leb 2048 (length weights) ≡ true
-    → (grSays (readGr netGr tails heads weights) ≡ accepted (4 ∷ 6 ∷ []))
-    × (row (columnOf First) (readGr netGr tails heads weights) tails ≡ 1 ∷ 2 ∷ 1 ∷ 3 ∷ 1 ∷ 4 ∷ drop 6 tails)
-    × (row (columnOf Second) (readGr netGr tails heads weights) heads ≡ 2 ∷ 3 ∷ 3 ∷ 4 ∷ 4 ∷ 1 ∷ drop 6 heads)
-    × (row (columnOf Third) (readGr netGr tails heads weights) weights ≡ 3 ∷ 2 ∷ 5 ∷ 1 ∷ 9 ∷ 4 ∷ drop 6 weights)
-unfolding grSays row netGr bytes
-net-gr-read tails heads weights h = rw (gr-text netGr tails heads weights (omega arith) h, worked-texts .0) (refl, refl, refl, refl)
+pub net-gr-read : (tails heads weights closures : List ℕ)
+    → leb 2048 (length tails) && leb 2048 (length heads) && leb 2048 (length weights) && leb 2048 (length closures) ≡ true
+    → (grSays (readGr netGr tails heads weights closures) ≡ accepted (4 ∷ 6 ∷ []))
+    × (row (columnOf First) (readGr netGr tails heads weights closures) tails ≡ 1 ∷ 2 ∷ 1 ∷ 3 ∷ 1 ∷ 4 ∷ drop 6 tails)
+    × (row (columnOf Second) (readGr netGr tails heads weights closures) heads ≡ 2 ∷ 3 ∷ 3 ∷ 4 ∷ 4 ∷ 1 ∷ drop 6 heads)
+    × (row (columnOf Third) (readGr netGr tails heads weights closures) weights ≡ 3 ∷ 2 ∷ 5 ∷ 1 ∷ 9 ∷ 4 ∷ drop 6 weights)
+    × (openRow (readGr netGr tails heads weights closures) closures ≡ 0 ∷ 0 ∷ 0 ∷ 0 ∷ 0 ∷ 0 ∷ drop 6 closures)
+unfolding grSays row openRow netGr bytes
+net-gr-read tails heads weights closures h = rw (gr-text netGr tails heads weights closures (omega arith) h, worked-texts .0) (refl, refl, refl, refl, refl)
 
 pub net-co-read : (x y : List ℤ) → leb 512 (length x) && leb 512 (length y) ≡ true
     → (coSays (readCo netCo 4 x y) ≡ accepted [])

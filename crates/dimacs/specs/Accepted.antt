@@ -1,8 +1,9 @@
 -- What holds of the rows after an accepted text, place by place (a row's places are counted from 0).
 use Prim.Native.Nat.{ℕ, _≤_, _<_}
+use mathlib.Core.Path.{_≡_}
 use mathlib.Core.List.{List}
 use lib.IntN.{ℤ, pos}
-use lib.ListN.{getD}
+use lib.ListN.{getD, length}
 use lib.Signed.{_≤ℤ_}
 use Rattle.rules.specs.Limits.{mostNodes, mostArcs, mostWeight, leastCoordinate, mostCoordinate}
 
@@ -16,6 +17,11 @@ pub record GrLimits (n m : ℕ) (tails heads weights : List ℕ) : Type 0 where
   pub head-least : (i : ℕ) → i < m → 1 ≤ getD heads i 0
   pub head-most : (i : ℕ) → i < m → getD heads i 0 ≤ n
   pub weight : (i : ℕ) → i < m → getD weights i 0 ≤ mostWeight
+
+-- .gr: each of the m arcs is open, in a row of closures that is as long as before
+pub record GrOpen (m : ℕ) (closures closures′ : List ℕ) : Type 0 where
+  pub each : (i : ℕ) → i < m → getD closures′ i 0 ≡ 0
+  pub long : length closures′ ≡ length closures
 
 -- .co: each of the n nodes has its place within limits
 pub record CoLimits (n : ℕ) (x y : List ℤ) : Type 0 where

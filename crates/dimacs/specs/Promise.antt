@@ -4,19 +4,20 @@ use mathlib.Core.Path.{_≡_}
 use mathlib.Core.List.{List}
 use lib.IntN.{ℤ}
 use Rattle.dimacs.specs.Rules.{columnOf, axisOf}
-use Rattle.dimacs.specs.Rows.{row}
+use Rattle.dimacs.specs.Rows.{row, openRow}
 use Rattle.dimacs.specs.Reading.{grReply, coReply, readGr, grSays, readCo, coSays}
 use Rattle.dimacs.specs.declared.GrReply.{GrReply}
 use Rattle.dimacs.specs.declared.CoReply.{CoReply}
 use Rattle.dimacs.specs.declared.rows.Column.the-variants.{First, Second, Third}
 use Rattle.dimacs.specs.declared.rows.Axis.the-variants.{X, Y}
 
--- `read_gr` replied r and left the rows as tails′, heads′ and weights′
-pub record GrPromise (text tails heads weights : List ℕ) (r : GrReply) (tails′ heads′ weights′ : List ℕ) : Type 0 where
-  pub reply : grReply r ≡ grSays (readGr text tails heads weights)
-  pub tails-left : tails′ ≡ row (columnOf First) (readGr text tails heads weights) tails
-  pub heads-left : heads′ ≡ row (columnOf Second) (readGr text tails heads weights) heads
-  pub weights-left : weights′ ≡ row (columnOf Third) (readGr text tails heads weights) weights
+-- `read_gr` replied r and left the rows as tails′, heads′, weights′ and closures′
+pub record GrPromise (text tails heads weights closures : List ℕ) (r : GrReply) (tails′ heads′ weights′ closures′ : List ℕ) : Type 0 where
+  pub reply : grReply r ≡ grSays (readGr text tails heads weights closures)
+  pub tails-left : tails′ ≡ row (columnOf First) (readGr text tails heads weights closures) tails
+  pub heads-left : heads′ ≡ row (columnOf Second) (readGr text tails heads weights closures) heads
+  pub weights-left : weights′ ≡ row (columnOf Third) (readGr text tails heads weights closures) weights
+  pub closures-left : closures′ ≡ openRow (readGr text tails heads weights closures) closures
 
 -- `read_co` replied r and left the rows as x′ and y′
 pub record CoPromise (text : List ℕ) (n : ℕ) (x y : List ℤ) (r : CoReply) (x′ y′ : List ℤ) : Type 0 where

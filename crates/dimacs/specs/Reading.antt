@@ -28,12 +28,12 @@ coReply (CoRefused r) = refusal r
 
 -- .gr: 1, 2, then the lines.
 
-unfoldable pub readGr : List ℕ → List ℕ → List ℕ → List ℕ → Outcome
-readGr text tails heads weights =
+unfoldable pub readGr : List ℕ → List ℕ → List ℕ → List ℕ → List ℕ → Outcome
+readGr text tails heads weights closures =
     onJudged
     (inTurn (
     passes (leb (length text) longestText) TextTooLong
-    ∷ passes (leb mostArcs (length tails) && leb mostArcs (length heads) && leb mostArcs (length weights)) RowTooShort
+    ∷ passes (leb mostArcs (length tails) && leb mostArcs (length heads) && leb mostArcs (length weights) && leb mostArcs (length closures)) RowTooShort
     ∷ []
     ))
     (readText Graph text)

@@ -7,6 +7,7 @@ mod sheet;
 use format::Format;
 use rows::Axis;
 use rows::Column;
+use rows::open_all;
 use rows::put_integers;
 use rows::put_naturals;
 use rules::Judged;
@@ -26,15 +27,24 @@ pub enum CoReply {
     Refused(Refusal),
 }
 
-// Reads a graph file into three rows of at least 2,048 places.
-pub fn read_gr(text: &[u8], tails: &mut [u32], heads: &mut [u32], weights: &mut [u32]) -> GrReply
-    ensures { λ r. ⌜ GrPromise (now (text .entry)) (now (tails .entry)) (now (heads .entry)) (now (weights .entry))
-        r (now (tails .exit)) (now (heads .exit)) (now (weights .exit)) ⌝ }
+// Reads a graph file into four rows of at least 2,048 places. A text carries no closures: every arc is open.
+pub fn read_gr(
+    text: &[u8],
+    tails: &mut [u32],
+    heads: &mut [u32],
+    weights: &mut [u32],
+    closures: &mut [u8],
+) -> GrReply
+    ensures { λ r. ⌜ GrPromise (now (text .entry)) (now (tails .entry)) (now (heads .entry)) (now (weights .entry)) (now (closures .entry))
+        r (now (tails .exit)) (now (heads .exit)) (now (weights .exit)) (now (closures .exit)) ⌝ }
 {
     if rules::TEXT < text.len() {
         return GrReply::Refused(Refusal::TextTooLong);
     }
-    if !((2048 <= tails.len()) & (2048 <= heads.len()) & (2048 <= weights.len())) {
+    if !((2048 <= tails.len())
+        & (2048 <= heads.len())
+        & (2048 <= weights.len())
+        & (2048 <= closures.len())) {
         return GrReply::Refused(Refusal::RowTooShort);
     }
     let sheet = read_sheet(text, Format::Graph);
@@ -46,6 +56,7 @@ pub fn read_gr(text: &[u8], tails: &mut [u32], heads: &mut [u32], weights: &mut 
         put_naturals(lines, Column::First, m as usize, tails);
         put_naturals(lines, Column::Second, m as usize, heads);
         put_naturals(lines, Column::Third, m as usize, weights);
+        open_all(m as usize, closures);
         return GrReply::Read(n, m);
     };
     GrReply::Refused(refusal)

@@ -1,9 +1,9 @@
-// Which number of a line; numbers of data lines, put into rows that are lent.
+// Which number of a line; numbers of data lines, put into rows that are lent; arcs that are open.
 use scan::holding::Numbers;
 ghost use mathlib.Core.Path.{_≡_};
 ghost use mathlib.Core.List.{_++_, map};
 ghost use Prim.Native.Nat.{_≤_};
-ghost use lib.ListN.{length, take, drop};
+ghost use lib.ListN.{length, take, drop, replicate};
 ghost use Rattle.dimacs.specs.Rules.{columnOf, axisOf};
 
 // Which number without sign of a line.
@@ -64,5 +64,17 @@ pub fn put_integers(lines: [Numbers; 2048], axis: Axis, n: usize, row: &mut [i32
         let z = integer(ns, axis);
         row[i] = z;
         i += 1;
+    }
+}
+
+// The first m arcs are open: their places become 0; the rest of the row stays.
+pub fn open_all(m: usize, closures: &mut [u8])
+    requires { ⌜ m ≤ length (now closures) ⌝ }
+    ensures { λ _. ⌜ now (closures .exit) ≡ replicate m 0 ++ drop m (now (closures .entry)) ⌝ }
+{
+    let mut e = 0;
+    while e < m {
+        closures[e] = 0;
+        e += 1;
     }
 }

@@ -20,7 +20,7 @@ use Rattle.drawing.proofs.DrawnLaws.{puts-box, puts-single, drawn-old, 
 
 -- the arc at place j is arc j + 1
 pub leads-next : (R : Rows) (lengths : List ℕ) (j : ℕ) {t : Bool}
-    → leadsB lengths (getD (R .tails) j 0) (getD (R .heads) j 0) (getD (R .weights) j 0) ≡ t
+    → leadsB lengths (getD (R .tails) j 0) (getD (R .heads) j 0) (getD (R .weights) j 0) (getD (R .closures) j 0) ≡ t
     → leadsAt R lengths (j + 1) ≡ t
 unfolding leadsAt
 leads-next R lengths j e = let same : j + 1 - 1 ≡ j = omega arith in rw same e
@@ -32,7 +32,7 @@ mark-next row j e = let same : j + 1 - 1 ≡ j = omega arith in rw same e
 -- the arc e + 1: it is marked, if it leads
 pub mark-turn : (R : Rows) (lengths : List ℕ) {e : ℕ} {before now : List Bool} {mark : Bool}
     → Drawn markRow e (Marked (leadsAt R lengths)) before now
-    → mark ≡ leadsB lengths (getD (R .tails) e 0) (getD (R .heads) e 0) (getD (R .weights) e 0) → e < length before
+    → mark ≡ leadsB lengths (getD (R .tails) e 0) (getD (R .heads) e 0) (getD (R .weights) e 0) (getD (R .closures) e 0) → e < length before
     → Drawn markRow (e + 1) (Marked (leadsAt R lengths)) before (set now e mark)
 mark-turn R lengths {e} {before} {now} {mark} drawn told room =
     let back : e + 1 - 1 ≡ e = omega arith in
@@ -95,5 +95,6 @@ first-arcs s k h = record {
   tails-long = omega (arith, s .tails-long);
   heads-long = omega (arith, s .heads-long);
   weights-long = omega (arith, s .weights-long);
+  closures-long = omega (arith, s .closures-long);
   arcs = λ e low high. s .arcs e low (omega arith);
 }

@@ -38,12 +38,13 @@ pub fn find_miss(
     tails: &[u32],
     heads: &[u32],
     weights: &[u32],
+    closures: &[u8],
     x: &[i32],
     y: &[i32],
     boxes: &[i32],
 ) -> Miss
-    requires { ⌜ Sound n m (rows (now tails) (now heads) (now weights)) × (n ≤ length (now x)) × (n ≤ length (now y)) × (4 * m ≤ length (now boxes)) ⌝ }
-    ensures { λ r. ⌜ IsFirst (missesNode (rows (now (tails .entry)) (now (heads .entry)) (now (weights .entry))) n m (now (boxes .entry)) (now (x .entry)) (now (y .entry))) n m r ⌝ }
+    requires { ⌜ Sound n m (rows (now tails) (now heads) (now weights) (now closures)) × (n ≤ length (now x)) × (n ≤ length (now y)) × (4 * m ≤ length (now boxes)) ⌝ }
+    ensures { λ r. ⌜ IsFirst (missesNode (rows (now (tails .entry)) (now (heads .entry)) (now (weights .entry)) (now (closures .entry))) n m (now (boxes .entry)) (now (x .entry)) (now (y .entry))) n m r ⌝ }
 {
     let mut first = [m as u32; 512];
     let mut next = [0u32; 2048];
@@ -61,6 +62,7 @@ pub fn find_miss(
             tails,
             heads,
             weights,
+            closures,
             &first,
             &next,
             &mut marked,

@@ -29,12 +29,13 @@ pub fn grow_all(
     tails: &[u32],
     heads: &[u32],
     weights: &[u32],
+    closures: &[u8],
     x: &[i32],
     y: &[i32],
     boxes: &mut [i32],
 )
-    requires { ⌜ Sound n m (rows (now tails) (now heads) (now weights)) × (n ≤ length (now x)) × (n ≤ length (now y)) × (4 * m ≤ length (now boxes)) ⌝ }
-    ensures { λ _. ⌜ Drawn boxRow m (GrownAll (leadsTo (rows (now (tails .entry)) (now (heads .entry)) (now (weights .entry))) n m) (now (x .entry)) (now (y .entry)) n) (now (boxes .entry)) (now (boxes .exit)) ⌝ }
+    requires { ⌜ Sound n m (rows (now tails) (now heads) (now weights) (now closures)) × (n ≤ length (now x)) × (n ≤ length (now y)) × (4 * m ≤ length (now boxes)) ⌝ }
+    ensures { λ _. ⌜ Drawn boxRow m (GrownAll (leadsTo (rows (now (tails .entry)) (now (heads .entry)) (now (weights .entry)) (now (closures .entry))) n m) (now (x .entry)) (now (y .entry)) n) (now (boxes .entry)) (now (boxes .exit)) ⌝ }
 {
     let mut first = [m as u32; 512];
     let mut next = [0u32; 2048];
@@ -50,6 +51,7 @@ pub fn grow_all(
             tails,
             heads,
             weights,
+            closures,
             &first,
             &next,
             &mut marked,

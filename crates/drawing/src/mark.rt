@@ -16,17 +16,18 @@ fn on_shortest(weight: u32, head: u32, tail: u32) -> bool
     (head < 4294967295) & (weight as u64 + head as u64 == tail as u64)
 }
 
-// Whether t is in S(e), for an arc e of these ends and this weight, by the lengths to t: the head has a length, and
-// with the arc's weight that is the tail's.
-fn leads(lengths: &[u32; 512], tail: u32, head: u32, weight: u32) -> bool
+// Whether t is in S(e), for an arc e of these ends, this weight and this closure, by the lengths to t: it is open, the head
+// has a length, and with the arc's weight that is the tail's.
+fn leads(lengths: &[u32; 512], tail: u32, head: u32, weight: u32, closure: u8) -> bool
     requires { ⌜ (1 ≤ tail) × (tail ≤ 512) × (1 ≤ head) × (head ≤ 512) ⌝ }
-    ensures { λ r. ⌜ r ≡ leadsB (now (lengths .entry)) tail head weight ⌝ }
+    ensures { λ r. ⌜ r ≡ leadsB (now (lengths .entry)) tail head weight closure ⌝ }
 {
-    on_shortest(
-        weight,
-        lengths[head as usize - 1],
-        lengths[tail as usize - 1],
-    )
+    (closure == 0)
+        & on_shortest(
+            weight,
+            lengths[head as usize - 1],
+            lengths[tail as usize - 1],
+        )
 }
 
 // Marks those of the arcs 1..k that lead to t, by the lengths to t.
@@ -36,14 +37,15 @@ fn mark_arcs(
     tails: &[u32],
     heads: &[u32],
     weights: &[u32],
+    closures: &[u8],
     marked: &mut [bool; 2048],
 )
-    requires { ⌜ Sound 512 k (rows (now tails) (now heads) (now weights)) × (length (now marked) ≡ 2048) ⌝ }
-    ensures { λ _. ⌜ Drawn markRow k (Marked (leadsAt (rows (now (tails .entry)) (now (heads .entry)) (now (weights .entry))) (now (lengths .entry)))) (now (marked .entry)) (now (marked .exit)) ⌝ }
+    requires { ⌜ Sound 512 k (rows (now tails) (now heads) (now weights) (now closures)) × (length (now marked) ≡ 2048) ⌝ }
+    ensures { λ _. ⌜ Drawn markRow k (Marked (leadsAt (rows (now (tails .entry)) (now (heads .entry)) (now (weights .entry)) (now (closures .entry))) (now (lengths .entry)))) (now (marked .entry)) (now (marked .exit)) ⌝ }
 {
     let mut e: usize = 0;
     while e < k {
-        marked[e] = leads(lengths, tails[e], heads[e], weights[e]);
+        marked[e] = leads(lengths, tails[e], heads[e], weights[e], closures[e]);
         e += 1;
     }
 }
@@ -58,14 +60,15 @@ pub fn mark_toward(
     tails: &[u32],
     heads: &[u32],
     weights: &[u32],
+    closures: &[u8],
     first: &[u32; 512],
     next: &[u32; 2048],
     marked: &mut [bool; 2048],
 )
-    requires { let R = rows (now tails) (now heads) (now weights) in
+    requires { let R = rows (now tails) (now heads) (now weights) (now closures) in
         ⌜ (1 ≤ t) × (t ≤ n) × (k ≤ m) × Sound n m R × Chained m (now heads) (now first) (now next) × (length (now marked) ≡ 2048) ⌝ }
-    ensures { λ _. ⌜ Drawn markRow k (Marked (leadsTo (rows (now (tails .entry)) (now (heads .entry)) (now (weights .entry))) n m t)) (now (marked .entry)) (now (marked .exit)) ⌝ }
+    ensures { λ _. ⌜ Drawn markRow k (Marked (leadsTo (rows (now (tails .entry)) (now (heads .entry)) (now (weights .entry)) (now (closures .entry))) n m t)) (now (marked .entry)) (now (marked .exit)) ⌝ }
 {
-    let labels = settling::run::label_all(t, n, m, heads, tails, weights, first, next);
-    mark_arcs(&labels.length, k, tails, heads, weights, marked);
+    let labels = settling::run::label_all(t, n, m, heads, tails, weights, closures, first, next);
+    mark_arcs(&labels.length, k, tails, heads, weights, closures, marked);
 }

@@ -10,13 +10,13 @@ use lib.IntN.{ℤ, pos}
 use lib.ListN.{length, take, length-take}
 use lib.Seq.{getD-take}
 use lib.Dec.{leb}
-use Rattle.rules.specs.declared.Refusal.the-variants.{BadArc, BadCoordinate, BadBox}
+use Rattle.rules.specs.declared.Refusal.the-variants.{BadArc, BadClosure, BadCoordinate, BadBox}
 use Rattle.rules.proofs.JudgingLaws.{each-same}
 use Rattle.geometry.specs.Box.{wellShapedB}
 use Rattle.geometry.specs.Row.{boxOf, coordinate}
 use Rattle.walks.specs.Rows.{Rows, at}
 use Rattle.judging.specs.Cut.{cut}
-use Rattle.judging.specs.Order.{arcRowsLong, boxRowsLong, arcs, coordinates, shapes, networkJudged, placedJudged, shapedJudged, searchJudged, boxedJudged, buildJudged, checkJudged, updateJudged}
+use Rattle.judging.specs.Order.{arcRowsLong, boxRowsLong, arcs, goodClosure, closures, coordinates, shapes, arcsJudged, networkJudged, searchedBy, placedBy, shapedBy, searchJudged, boxedJudged, buildJudged, checkJudged, updateJudged}
 
 -- ---- A row
 
@@ -55,6 +55,9 @@ module _ (n m : ℕ) (R : Rows) where
       each-same _ _ BadArc m (λ i low high.
       rw (at-cut m (R .tails) i low high, at-cut m (R .heads) i low high, at-cut m (R .weights) i low high))
 
+closures-cut : (m : ℕ) (row : List ℕ) → closures m (take m row) ≡ closures m row
+closures-cut m row = each-same _ _ BadClosure m (λ i low high. ap goodClosure (at-cut m row i low high))
+
 module _ (n m : ℕ) (x y boxes : List ℤ) where
   box-rows-cut : boxRowsLong n m (take n x) (take n y) (take (4 * m) boxes) ≡ boxRowsLong n m x y boxes
   box-rows-cut = rw (long-cut n x, long-cut n y, long-cut (4 * m) boxes)
@@ -68,30 +71,34 @@ module _ (n m : ℕ) (x y boxes : List ℤ) where
 -- ---- The calls
 
 module _ (n m : ℕ) (R : Rows) where
+  arcs-judged-cut : (others : Bool) → arcsJudged n m (cut m R) others ≡ arcsJudged n m R others
+  unfolding arcsJudged
+  arcs-judged-cut others = rw (arc-rows-cut n m R, arcs-cut n m R)
+
   network-cut : (others : Bool) → networkJudged n m (cut m R) others ≡ networkJudged n m R others
   unfolding networkJudged
-  network-cut others = rw (arc-rows-cut n m R, arcs-cut n m R)
+  network-cut others = rw (long-cut m (R .closures), arcs-judged-cut, closures-cut m (R .closures))
 
   pub search-judged-cut : (s t : ℕ) (route : List ℕ)
       → searchJudged n m (cut m R) s t (length (take n route)) ≡ searchJudged n m R s t (length route)
-  unfolding searchJudged
+  unfolding searchedBy searchJudged
   search-judged-cut s t route = rw (long-cut n route, network-cut (leb n (length route)))
 
   module _ (x y boxes : List ℤ) where
-    placed-cut : (others : Bool) → placedJudged n m (cut m R) (take n x) (take n y) (take (4 * m) boxes) others
-        ≡ placedJudged n m R x y boxes others
-    unfolding placedJudged
+    placed-cut : (others : Bool) → placedBy (networkJudged n m (cut m R)) n m (take n x) (take n y) (take (4 * m) boxes) others
+        ≡ placedBy (networkJudged n m R) n m x y boxes others
+    unfolding placedBy
     placed-cut others = rw (box-rows-cut n m x y boxes, network-cut, coordinates-cut n m x y boxes)
 
-    shaped-cut : (others : Bool) → shapedJudged n m (cut m R) (take n x) (take n y) (take (4 * m) boxes) others
-        ≡ shapedJudged n m R x y boxes others
-    unfolding shapedJudged
+    shaped-cut : (others : Bool) → shapedBy (networkJudged n m (cut m R)) n m (take n x) (take n y) (take (4 * m) boxes) others
+        ≡ shapedBy (networkJudged n m R) n m x y boxes others
+    unfolding shapedBy
     shaped-cut others = rw (placed-cut others, shapes-cut n m x y boxes)
 
     pub boxed-judged-cut : (s t : ℕ) (route : List ℕ)
         → boxedJudged n m (cut m R) (take n x) (take n y) (take (4 * m) boxes) s t (length (take n route))
         ≡ boxedJudged n m R x y boxes s t (length route)
-    unfolding boxedJudged
+    unfolding searchedBy boxedJudged
     boxed-judged-cut s t route = rw (long-cut n route, shaped-cut (leb n (length route)))
 
     pub build-judged-cut : buildJudged n m (cut m R) (take n x) (take n y) (take (4 * m) boxes)
@@ -104,7 +111,8 @@ module _ (n m : ℕ) (R : Rows) where
     unfolding checkJudged
     check-judged-cut = shaped-cut true
 
-    pub update-judged-cut : (arc weight : ℕ) → updateJudged n m (cut m R) (take n x) (take n y) (take (4 * m) boxes) arc weight
-        ≡ updateJudged n m R x y boxes arc weight
+    pub update-judged-cut : (arc weight closure : ℕ)
+        → updateJudged n m (cut m R) (take n x) (take n y) (take (4 * m) boxes) arc weight closure
+        ≡ updateJudged n m R x y boxes arc weight closure
     unfolding updateJudged
-    update-judged-cut arc weight = rw check-judged-cut
+    update-judged-cut arc weight closure = rw check-judged-cut

@@ -16,8 +16,8 @@ use Rattle.rules.proofs.JudgingLaws.{both-fine, passed, each-passes, each-fine}
 use Rattle.geometry.specs.Row.{boxOf}
 use Rattle.geometry.proofs.Tests.{shaped-yes, yes-shaped}
 use Rattle.walks.specs.Rows.{Rows, Sound}
-use Rattle.judging.specs.Order.{shapes, ends, change, networkJudged, shapedJudged, searchJudged, boxedJudged, buildJudged, checkJudged, updateJudged}
-use Rattle.judging.proofs.StageLaws.{network-fine, BoxesLent, Shaped, placed-fine, shaped-fine, placed-judged, shaped-adds-nothing}
+use Rattle.judging.specs.Order.{shapes, ends, reweighing, change, networkJudged, searchedBy, shapedBy, searchJudged, boxedJudged, buildJudged, checkJudged, updateJudged}
+use Rattle.judging.proofs.StageLaws.{network-fine, BoxesLent, Shaped, placed-fine, shaped-parts, placed-judged, shaped-adds-nothing}
 
 -- ---- The searches
 
@@ -45,7 +45,7 @@ module _ (n m : ℕ) (R : Rows) (s t places : ℕ) where
       record { sound = sound; source-low = p .0; source-high = p .1; target-low = p .2; target-high = p .3; room = leb-true n places room }
 
   pub search-fine : searchJudged n m R s t places ≡ Fine → SearchLent n m R s t places
-  unfolding searchJudged
+  unfolding searchedBy searchJudged
   search-fine e =
       let p = both-fine (networkJudged n m R (leb n places)) _ e in
       let q = network-fine n m R (leb n places) (p .0) in
@@ -53,10 +53,10 @@ module _ (n m : ℕ) (R : Rows) (s t places : ℕ) where
 
   pub boxed-fine : (x y boxes : List ℤ) → boxedJudged n m R x y boxes s t places ≡ Fine
       → SearchLent n m R s t places × (n ≤ length x) × (n ≤ length y) × (4 * m ≤ length boxes)
-  unfolding boxedJudged
+  unfolding searchedBy boxedJudged
   boxed-fine x y boxes e =
-      let p = both-fine (shapedJudged n m R x y boxes (leb n places)) _ e in
-      let q = placed-fine n m R x y boxes (leb n places) (shaped-fine n m R x y boxes (leb n places) (p .0) .0) in
+      let p = both-fine (shapedBy (networkJudged n m R) n m x y boxes (leb n places)) _ e in
+      let q = placed-fine n m R x y boxes (leb n places) (shaped-parts (networkJudged n m R) n m x y boxes (leb n places) (p .0) .0) in
       let l = q .0 in
       (search-lent (l .sound) (q .1) (both-fine (ends n s t) Fine (p .1) .0), l .x-long, l .y-long, l .boxes-long)
 
@@ -70,22 +70,24 @@ module _ (n m : ℕ) (R : Rows) (x y boxes : List ℤ) where
   pub check-fine : checkJudged n m R x y boxes ≡ Fine → (buildJudged n m R x y boxes ≡ Fine) × Shaped m boxes
   unfolding buildJudged checkJudged
   check-fine e =
-      let p = shaped-fine n m R x y boxes true e in
+      let p = shaped-parts (networkJudged n m R) n m x y boxes true e in
       (p .0, λ i low high. shaped-yes (boxOf boxes i) (each-passes _ _ m (p .1) i low high))
 
-  pub update-fine : (arc weight : ℕ) → updateJudged n m R x y boxes arc weight ≡ Fine
-      → (checkJudged n m R x y boxes ≡ Fine) × (1 ≤ arc) × (arc ≤ m) × (weight ≤ 1_000_000)
+  pub update-fine : (arc weight closure : ℕ) → updateJudged n m R x y boxes arc weight closure ≡ Fine
+      → (checkJudged n m R x y boxes ≡ Fine) × (1 ≤ arc) × (arc ≤ m) × (weight ≤ 1_000_000) × (closure ≤ 1)
   unfolding updateJudged
-  update-fine arc weight e =
+  update-fine arc weight closure e =
       let p = both-fine (checkJudged n m R x y boxes) _ e in
-      let c = both-fine (change m arc weight) Fine (p .1) .0 in
-      let q = both-fine (passes (leb 1 arc && leb arc m) NotInNetwork) _ c in
+      let c = both-fine (change m arc weight closure) Fine (p .1) .0 in
+      let r = both-fine (reweighing m arc weight) _ c in
+      let q = both-fine (passes (leb 1 arc && leb arc m) NotInNetwork) _ (r .0) in
       let a = and-true (leb 1 arc) (leb arc m) (passed _ _ (q .0)) in
       let w = passed (leb weight 1_000_000) _ (both-fine _ Fine (q .1) .0) in
-      (p .0, leb-true 1 arc (a .0), leb-true arc m (a .1), leb-true weight 1_000_000 w)
+      let k = passed (leb closure 1) _ (both-fine _ Fine (r .1) .0) in
+      (p .0, leb-true 1 arc (a .0), leb-true arc m (a .1), leb-true weight 1_000_000 w, leb-true closure 1 k)
 
   pub shaped-judged : BoxesLent n m R x y boxes → Shaped m boxes → checkJudged n m R x y boxes ≡ Fine
-  unfolding checkJudged shapedJudged
+  unfolding checkJudged shapedBy
   shaped-judged l h =
       let good : shapes m boxes ≡ Fine = each-fine _ _ m (λ e low high. yes-shaped (boxOf boxes e) (h e low high)) in
       rw (placed-judged n m R x y boxes true l refl, good) refl
@@ -93,13 +95,13 @@ module _ (n m : ℕ) (R : Rows) (x y boxes : List ℤ) where
   -- where a check gets past 10, both searches are judged alike
   pub judged-alike : checkJudged n m R x y boxes ≡ Fine → (s t places : ℕ)
       → boxedJudged n m R x y boxes s t places ≡ searchJudged n m R s t places
-  unfolding checkJudged boxedJudged searchJudged
+  unfolding searchedBy checkJudged boxedJudged searchJudged
   judged-alike fine s t places = rw (shaped-adds-nothing n m R x y boxes fine (leb n places)) refl
 
 -- a search is judged alike by two route rows that both have n places, or both have not
 pub room-alike : (n m : ℕ) (R : Rows) (s t : ℕ) {a b : ℕ} → (n ≤ a) ↔ (n ≤ b)
     → searchJudged n m R s t b ≡ searchJudged n m R s t a
-unfolding searchJudged
+unfolding searchedBy searchJudged
 room-alike n m R s t {a} {b} h = rw long
   where
     long : leb n b ≡ leb n a

@@ -3,3 +3,4 @@ pub mod FineLaws
 pub mod CutLaws
 pub mod NextLaws
 pub mod SideLaws
+pub mod OpenLaws

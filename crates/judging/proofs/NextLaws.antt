@@ -9,12 +9,15 @@ use lib.ListN.{getD}
 use Rattle.geometry.specs.Box.{withinB, wellShapedB}
 use Rattle.geometry.specs.Row.{number, boxFrom}
 use Rattle.walks.specs.Rows.{Rows, at}
-use Rattle.judging.specs.Order.{goodArc, goodPlace, goodBox}
+use Rattle.judging.specs.Order.{goodArc, goodClosure, goodPlace, goodBox}
 
 pub arc-next : (n : ℕ) (R : Rows) (i : ℕ)
     → goodArc n (getD (R .tails) i 0) (getD (R .heads) i 0) (getD (R .weights) i 0)
     ≡ goodArc n (at (R .tails) (i + 1)) (at (R .heads) (i + 1)) (at (R .weights) (i + 1))
 arc-next n R i = let same : i + 1 - 1 ≡ i = omega arith in rw same refl
+
+pub closure-next : (row : List ℕ) (i : ℕ) → goodClosure (getD row i 0) ≡ goodClosure (at row (i + 1))
+closure-next row i = let same : i + 1 - 1 ≡ i = omega arith in rw same refl
 
 pub place-next : (x y : List ℤ) (i : ℕ) → withinB (number x i) && withinB (number y i) ≡ goodPlace x y (i + 1)
 place-next x y i = let same : i + 1 - 1 ≡ i = omega arith in rw same refl

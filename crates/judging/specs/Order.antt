@@ -1,5 +1,6 @@
--- The one order of refusals, for every call on a network: 5 for n or m, 2, 8, 9, 10, 11, 5 for a new weight. First the stages in
--- that order, then what calls have in common, then the calls. A call makes only the tests of what it is lent or reads.
+-- The one order of refusals, for every call on a network: 5 for n or m, 2, 8, 14, 9, 10, 11, 5 for a new weight, 14 for a new
+-- closure. First the stages in that order, then what calls have in common, then the calls. A call makes only the tests of what it
+-- is lent or reads.
 use Prim.Native.Nat.{ℕ, _*_}
 use mathlib.Core.Bool.{Bool, true, _&&_}
 use mathlib.Core.List.{List, [], _∷_}
@@ -9,7 +10,7 @@ use lib.Dec.{leb}
 use Rattle.rules.specs.Limits.{mostNodes, mostArcs, mostWeight}
 use Rattle.rules.specs.Judging.{inTurn, passes, each}
 use Rattle.rules.specs.declared.Judged.{Judged}
-use Rattle.rules.specs.declared.Refusal.the-variants.{RowTooShort, BeyondLimits, BadArc, BadCoordinate, BadBox, NotInNetwork}
+use Rattle.rules.specs.declared.Refusal.the-variants.{RowTooShort, BeyondLimits, BadArc, BadClosure, BadCoordinate, BadBox, NotInNetwork}
 use Rattle.geometry.specs.Box.{withinB, wellShapedB}
 use Rattle.geometry.specs.Row.{coordinate, boxOf}
 use Rattle.walks.specs.Rows.{Rows, at}
@@ -39,6 +40,13 @@ goodArc n tail head weight = leb 1 tail && leb tail n && leb 1 head && leb head 
 abbrev pub arcs : ℕ → ℕ → Rows → Judged
 arcs n m R = each (λ e. goodArc n (at (R .tails) e) (at (R .heads) e) (at (R .weights) e)) BadArc m
 
+-- 14: an arc's closure is 0, open, or 1, closed
+abbrev pub goodClosure : ℕ → Bool
+goodClosure byte = leb byte 1
+
+abbrev pub closures : ℕ → List ℕ → Judged
+closures m row = each (λ e. goodClosure (at row e)) BadClosure m
+
 -- 9: both coordinates of a node are within limits
 abbrev pub goodPlace : List ℤ → List ℤ → ℕ → Bool
 goodPlace x y node = withinB (coordinate x node) && withinB (coordinate y node)
@@ -58,43 +66,58 @@ abbrev pub ends : ℕ → ℕ → ℕ → Judged
 ends n s t = passes (leb 1 s && leb s n && leb 1 t && leb t n) NotInNetwork
 
 -- 11, 5: there is such an arc, and its new weight is within the limit
-abbrev pub change : ℕ → ℕ → ℕ → Judged
-change m arc weight = inTurn (passes (leb 1 arc && leb arc m) NotInNetwork ∷ passes (leb weight mostWeight) (BeyondLimits 0) ∷ [])
+abbrev pub reweighing : ℕ → ℕ → ℕ → Judged
+reweighing m arc weight = inTurn (passes (leb 1 arc && leb arc m) NotInNetwork ∷ passes (leb weight mostWeight) (BeyondLimits 0) ∷ [])
 
--- ---- What calls have in common; `others` tells whether the other rows that a call is lent are long enough
+-- 11, 5, 14: and its new closure is 0 or 1
+abbrev pub change : ℕ → ℕ → ℕ → ℕ → Judged
+change m arc weight closure = inTurn (reweighing m arc weight ∷ passes (goodClosure closure) (BadClosure arc) ∷ [])
 
--- a network: 5, 2, 8
+-- ---- What calls have in common. A judgement of the network is told whether the other rows that a call is lent are long enough.
+
+-- arcs without closures: 5, 2, 8
+unfoldable pub arcsJudged : ℕ → ℕ → Rows → Bool → Judged
+arcsJudged n m R others = inTurn (sizes n m ∷ lengths (arcRowsLong m R && others) ∷ arcs n m R ∷ [])
+
+-- a network: 5, 2, 8, 14
 unfoldable pub networkJudged : ℕ → ℕ → Rows → Bool → Judged
-networkJudged n m R others = inTurn (sizes n m ∷ lengths (arcRowsLong m R && others) ∷ arcs n m R ∷ [])
+networkJudged n m R others = inTurn (arcsJudged n m R (leb m (length (R .closures)) && others) ∷ closures m (R .closures) ∷ [])
 
--- with coordinates and a row for boxes: 5, 2, 8, 9
-unfoldable pub placedJudged : ℕ → ℕ → Rows → List ℤ → List ℤ → List ℤ → Bool → Judged
-placedJudged n m R x y boxes others =
-    inTurn (networkJudged n m R (boxRowsLong n m x y boxes && others) ∷ coordinates n x y ∷ [])
+-- `judged` is such a judgement of a network of n nodes
+module _ (judged : Bool → Judged) (n : ℕ) where
+  -- a search, which is also lent a route row, of `places` places, which needs n: then 11
+  unfoldable pub searchedBy : ℕ → ℕ → ℕ → Judged
+  searchedBy s t places = inTurn (judged (leb n places) ∷ ends n s t ∷ [])
 
--- with boxes in that row: 5, 2, 8, 9, 10
-unfoldable pub shapedJudged : ℕ → ℕ → Rows → List ℤ → List ℤ → List ℤ → Bool → Judged
-shapedJudged n m R x y boxes others = inTurn (placedJudged n m R x y boxes others ∷ shapes m boxes ∷ [])
+  module _ (m : ℕ) (x y boxes : List ℤ) where
+    -- with coordinates and a row for boxes: then 9
+    unfoldable pub placedBy : Bool → Judged
+    placedBy others = inTurn (judged (boxRowsLong n m x y boxes && others) ∷ coordinates n x y ∷ [])
 
--- ---- The calls; a search is also lent a route row, of `places` places, which needs n
+    -- with boxes in that row: then 9, 10
+    unfoldable pub shapedBy : Bool → Judged
+    shapedBy others = inTurn (placedBy others ∷ shapes m boxes ∷ [])
 
--- a search: 5, 2, 8, 11, and then 12
-unfoldable pub searchJudged : ℕ → ℕ → Rows → ℕ → ℕ → ℕ → Judged
-searchJudged n m R s t places = inTurn (networkJudged n m R (leb n places) ∷ ends n s t ∷ [])
+-- ---- The calls
 
--- a search with boxes: 5, 2, 8, 9, 10, 11, and then 12
-unfoldable pub boxedJudged : ℕ → ℕ → Rows → List ℤ → List ℤ → List ℤ → ℕ → ℕ → ℕ → Judged
-boxedJudged n m R x y boxes s t places = inTurn (shapedJudged n m R x y boxes (leb n places) ∷ ends n s t ∷ [])
+module _ (n m : ℕ) (R : Rows) where
+  -- a search: 5, 2, 8, 14, 11, and then 12
+  unfoldable pub searchJudged : ℕ → ℕ → ℕ → Judged
+  searchJudged s t places = searchedBy (networkJudged n m R) n s t places
 
-module _ (n m : ℕ) (R : Rows) (x y boxes : List ℤ) where
-  -- build: 5, 2, 8, 9
-  unfoldable pub buildJudged : Judged
-  buildJudged = placedJudged n m R x y boxes true
+  module _ (x y boxes : List ℤ) where
+    -- a search with boxes: 5, 2, 8, 14, 9, 10, 11, and then 12
+    unfoldable pub boxedJudged : ℕ → ℕ → ℕ → Judged
+    boxedJudged s t places = searchedBy (shapedBy (networkJudged n m R) n m x y boxes) n s t places
 
-  -- check: 5, 2, 8, 9, 10, and then 13
-  unfoldable pub checkJudged : Judged
-  checkJudged = shapedJudged n m R x y boxes true
+    -- build: 5, 2, 8, 14, 9
+    unfoldable pub buildJudged : Judged
+    buildJudged = placedBy (networkJudged n m R) n m x y boxes true
 
-  -- update: 5, 2, 8, 9, 10, 11, 5
-  unfoldable pub updateJudged : ℕ → ℕ → Judged
-  updateJudged arc weight = inTurn (checkJudged ∷ change m arc weight ∷ [])
+    -- check: 5, 2, 8, 14, 9, 10, and then 13
+    unfoldable pub checkJudged : Judged
+    checkJudged = shapedBy (networkJudged n m R) n m x y boxes true
+
+    -- update: 5, 2, 8, 14, 9, 10, 11, 5, 14
+    unfoldable pub updateJudged : ℕ → ℕ → ℕ → Judged
+    updateJudged arc weight closure = inTurn (checkJudged ∷ change m arc weight closure ∷ [])

@@ -3,7 +3,7 @@ ghost use mathlib.Core.Path.{_≡_};
 ghost use Prim.Native.Nat.{_≤_};
 ghost use lib.ListN.{length};
 ghost use Rattle.rules.specs.Judging.{isFine};
-ghost use Rattle.walks.specs.Rows.{rows};
+ghost use Rattle.walks.specs.Rows.{openRows};
 ghost use Rattle.judging.specs.Order.{goodArc, arcs};
 use rules::Judged;
 use rules::Refusal;
@@ -18,7 +18,7 @@ fn good_arc(n: u32, tail: u32, head: u32, weight: u32) -> bool
 // Whether all arcs of 1..m are good: one pass with no way out, which is compiled to wide instructions.
 fn all_arcs_good(n: u32, m: u32, tails: &[u32], heads: &[u32], weights: &[u32]) -> bool
     requires { ⌜ (m ≤ length (now tails)) × (m ≤ length (now heads)) × (m ≤ length (now weights)) ⌝ }
-    ensures { λ r. ⌜ r ≡ isFine (arcs n m (rows (now (tails .entry)) (now (heads .entry)) (now (weights .entry)))) ⌝ }
+    ensures { λ r. ⌜ r ≡ isFine (arcs n m (openRows (now (tails .entry)) (now (heads .entry)) (now (weights .entry)))) ⌝ }
 {
     let places = m as usize;
     let mut good = true;
@@ -33,7 +33,7 @@ fn all_arcs_good(n: u32, m: u32, tails: &[u32], heads: &[u32], weights: &[u32]) 
 // Refusal 8 of the lowest arc of 1..m that is not good. It is looked for only where there is one.
 pub fn judge_arcs(n: u32, m: u32, tails: &[u32], heads: &[u32], weights: &[u32]) -> Judged
     requires { ⌜ (m ≤ length (now tails)) × (m ≤ length (now heads)) × (m ≤ length (now weights)) ⌝ }
-    ensures { λ r. ⌜ r ≡ arcs n m (rows (now (tails .entry)) (now (heads .entry)) (now (weights .entry))) ⌝ }
+    ensures { λ r. ⌜ r ≡ arcs n m (openRows (now (tails .entry)) (now (heads .entry)) (now (weights .entry))) ⌝ }
 {
     if all_arcs_good(n, m, tails, heads, weights) {
         return Judged::Fine;

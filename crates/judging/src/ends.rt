@@ -1,4 +1,4 @@
-// Refusal 11, of a source, target or arc that is not in the network, and 5 of a new weight.
+// Refusal 11, of a source, target or arc that is not in the network, 5 of a new weight, and 14 of a new closure.
 ghost use mathlib.Core.Path.{_≡_};
 ghost use Rattle.judging.specs.Order.{ends, change};
 use crate::sizes::unless;
@@ -15,13 +15,17 @@ pub fn judge_ends(n: u32, s: u32, t: u32) -> Judged
     )
 }
 
-// Refusal 11 where there is no such arc, and 5 where the new weight is beyond its limit.
-pub fn judge_change(m: u32, arc: u32, weight: u32) -> Judged
-    ensures { λ r. ⌜ r ≡ change m arc weight ⌝ }
+// Refusal 11 where there is no such arc, 5 where its new weight is beyond the limit, and 14 where its new closure is neither 0 nor 1.
+pub fn judge_change(m: u32, arc: u32, weight: u32, closure: u8) -> Judged
+    ensures { λ r. ⌜ r ≡ change m arc weight closure ⌝ }
 {
     let a = unless((1 <= arc) & (arc <= m), Refusal::NotInNetwork);
     let Judged::Fine = a else {
         return a;
     };
-    unless(weight <= rules::WEIGHT, Refusal::BeyondLimits { line: 0 })
+    let b = unless(weight <= rules::WEIGHT, Refusal::BeyondLimits { line: 0 });
+    let Judged::Fine = b else {
+        return b;
+    };
+    unless(closure <= 1, Refusal::BadClosure { arc })
 }

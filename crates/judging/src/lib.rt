@@ -12,38 +12,41 @@ use rules::Judged;
 
 pub mod arcs;
 pub mod boxes;
+pub mod closures;
 pub mod ends;
 pub mod network;
 pub mod places;
 pub mod sizes;
 
-// A search from `s` to `t` with a route row of `places` places: 5, 2, 8, 11.
+// A search from `s` to `t` with a route row of `places` places: 5, 2, 8, 14, 11.
 pub fn judge_search(
     n: u32,
     m: u32,
     tails: &[u32],
     heads: &[u32],
     weights: &[u32],
+    closures: &[u8],
     s: u32,
     t: u32,
     places: usize,
 ) -> Judged
-    ensures { λ r. ⌜ r ≡ searchJudged n m (rows (now (tails .entry)) (now (heads .entry)) (now (weights .entry))) s t places ⌝ }
+    ensures { λ r. ⌜ r ≡ searchJudged n m (rows (now (tails .entry)) (now (heads .entry)) (now (weights .entry)) (now (closures .entry))) s t places ⌝ }
 {
-    let a = judge_network(n, m, tails, heads, weights, n as usize <= places);
+    let a = judge_network(n, m, tails, heads, weights, closures, n as usize <= places);
     let Judged::Fine = a else {
         return a;
     };
     judge_ends(n, s, t)
 }
 
-// A search with boxes: 5, 2, 8, 9, 10, 11.
+// A search with boxes: 5, 2, 8, 14, 9, 10, 11.
 pub fn judge_boxed(
     n: u32,
     m: u32,
     tails: &[u32],
     heads: &[u32],
     weights: &[u32],
+    closures: &[u8],
     x: &[i32],
     y: &[i32],
     boxes: &[i32],
@@ -51,66 +54,70 @@ pub fn judge_boxed(
     t: u32,
     places: usize,
 ) -> Judged
-    ensures { λ r. ⌜ r ≡ boxedJudged n m (rows (now (tails .entry)) (now (heads .entry)) (now (weights .entry))) (now (x .entry)) (now (y .entry)) (now (boxes .entry)) s t places ⌝ }
+    ensures { λ r. ⌜ r ≡ boxedJudged n m (rows (now (tails .entry)) (now (heads .entry)) (now (weights .entry)) (now (closures .entry))) (now (x .entry)) (now (y .entry)) (now (boxes .entry)) s t places ⌝ }
 {
     let room = n as usize <= places;
-    let a = judge_shaped(n, m, tails, heads, weights, x, y, boxes, room);
+    let a = judge_shaped(n, m, tails, heads, weights, closures, x, y, boxes, room);
     let Judged::Fine = a else {
         return a;
     };
     judge_ends(n, s, t)
 }
 
-// A build: 5, 2, 8, 9.
+// A build: 5, 2, 8, 14, 9.
 pub fn judge_build(
     n: u32,
     m: u32,
     tails: &[u32],
     heads: &[u32],
     weights: &[u32],
+    closures: &[u8],
     x: &[i32],
     y: &[i32],
     boxes: &[i32],
 ) -> Judged
-    ensures { λ r. ⌜ r ≡ buildJudged n m (rows (now (tails .entry)) (now (heads .entry)) (now (weights .entry))) (now (x .entry)) (now (y .entry)) (now (boxes .entry)) ⌝ }
+    ensures { λ r. ⌜ r ≡ buildJudged n m (rows (now (tails .entry)) (now (heads .entry)) (now (weights .entry)) (now (closures .entry))) (now (x .entry)) (now (y .entry)) (now (boxes .entry)) ⌝ }
 {
-    judge_placed(n, m, tails, heads, weights, x, y, boxes, true)
+    judge_placed(n, m, tails, heads, weights, closures, x, y, boxes, true)
 }
 
-// A check before 13: 5, 2, 8, 9, 10.
+// A check before 13: 5, 2, 8, 14, 9, 10.
 pub fn judge_check(
     n: u32,
     m: u32,
     tails: &[u32],
     heads: &[u32],
     weights: &[u32],
+    closures: &[u8],
     x: &[i32],
     y: &[i32],
     boxes: &[i32],
 ) -> Judged
-    ensures { λ r. ⌜ r ≡ checkJudged n m (rows (now (tails .entry)) (now (heads .entry)) (now (weights .entry))) (now (x .entry)) (now (y .entry)) (now (boxes .entry)) ⌝ }
+    ensures { λ r. ⌜ r ≡ checkJudged n m (rows (now (tails .entry)) (now (heads .entry)) (now (weights .entry)) (now (closures .entry))) (now (x .entry)) (now (y .entry)) (now (boxes .entry)) ⌝ }
 {
-    judge_shaped(n, m, tails, heads, weights, x, y, boxes, true)
+    judge_shaped(n, m, tails, heads, weights, closures, x, y, boxes, true)
 }
 
-// An update: 5, 2, 8, 9, 10, 11, 5.
+// An update: 5, 2, 8, 14, 9, 10, 11, 5, 14.
 pub fn judge_update(
     n: u32,
     m: u32,
     tails: &[u32],
     heads: &[u32],
     weights: &[u32],
+    closures: &[u8],
     x: &[i32],
     y: &[i32],
     boxes: &[i32],
     arc: u32,
     weight: u32,
+    closure: u8,
 ) -> Judged
-    ensures { λ r. ⌜ r ≡ updateJudged n m (rows (now (tails .entry)) (now (heads .entry)) (now (weights .entry))) (now (x .entry)) (now (y .entry)) (now (boxes .entry)) arc weight ⌝ }
+    ensures { λ r. ⌜ r ≡ updateJudged n m (rows (now (tails .entry)) (now (heads .entry)) (now (weights .entry)) (now (closures .entry))) (now (x .entry)) (now (y .entry)) (now (boxes .entry)) arc weight closure ⌝ }
 {
-    let a = judge_check(n, m, tails, heads, weights, x, y, boxes);
+    let a = judge_check(n, m, tails, heads, weights, closures, x, y, boxes);
     let Judged::Fine = a else {
         return a;
     };
-    judge_change(m, arc, weight)
+    judge_change(m, arc, weight, closure)
 }

@@ -1,7 +1,7 @@
 // Refusals 5 and 2: n and m, and the lengths of the rows.
 ghost use mathlib.Core.Path.{_≡_};
 ghost use Rattle.rules.specs.Judging.{passes};
-ghost use Rattle.walks.specs.Rows.{rows};
+ghost use Rattle.walks.specs.Rows.{openRows};
 ghost use Rattle.judging.specs.Order.{sizes, lengths, arcRowsLong, boxRowsLong};
 use rules::Judged;
 use rules::Refusal;
@@ -35,7 +35,7 @@ pub fn judge_lengths(long: bool) -> Judged
 
 // Whether the arc rows have m places.
 pub fn arc_rows_long(m: u32, tails: &[u32], heads: &[u32], weights: &[u32]) -> bool
-    ensures { λ r. ⌜ r ≡ arcRowsLong m (rows (now (tails .entry)) (now (heads .entry)) (now (weights .entry))) ⌝ }
+    ensures { λ r. ⌜ r ≡ arcRowsLong m (openRows (now (tails .entry)) (now (heads .entry)) (now (weights .entry))) ⌝ }
 {
     let places = m as usize;
     (places <= tails.len()) & (places <= heads.len()) & (places <= weights.len())

@@ -1,18 +1,13 @@
 -- Laws of words that are judged to be numbers.
-use Prim.Native.Nat.{ℕ, zero, suc, _≤_, _<_}
+use Prim.Native.Nat.{ℕ, zero, suc, _<_}
 use mathlib.Core.Path.{_≡_, refl, sym, ap, _∙_}
 use mathlib.Core.List.{List, [], _∷_}
-use mathlib.Core.Bool.{Bool, true, false, cond}
 use native.Mathlib.Nat.{le-of-suc-le-suc, not-suc-le-zero}
 use native.Mathlib.Omega.{arith}
-use lib.Dec.{leb, leb→le}
 use lib.IntN.{ℤ}
 use lib.ListN.{length, getD}
 use Rattle.scan.specs.Numbers.{integerOf}
-use Rattle.commands.specs.Numbers.{countTo, signedOf}
-use Rattle.scan.specs.declared.numbers.Natural.{Natural}
-use Rattle.scan.specs.declared.numbers.Natural.the-variants.{Number, NoNumber}
-use Rattle.commands.specs.declared.Fault.the-variants.{BeyondType}
+use Rattle.commands.specs.Numbers.{signedOf}
 use Rattle.commands.specs.declared.rows.Kind.{Kind}
 use Rattle.commands.specs.declared.rows.Kind.the-variants.{Counts, Numbers, Bytes}
 use Rattle.commands.specs.Commands.{number, byte, countJudged, signedJudged, valueJudged, valuesJudged, onGood}
@@ -59,22 +54,6 @@ count-value w cut n r p q e = rw (← q, ← p, e)
 pub byte-value : (w cut : List ℕ) (n : ℕ) (r : Count) → r ≡ byte w → w ≡ cut → r ≡ count.Is n → n ≡ countIn (byte cut)
 unfolding countIn
 byte-value w cut n r p q e = rw (← q, ← p, e)
-
-not-is : {A : Type 0} (f : Fault) (n : ℕ) → count.Not f ≡ count.Is n → A
-not-is f n e = let z : _≡_ {A = ℕ} 0 1 = cc in absurd (omega arith)
-
--- a number that is read is at most as much as was asked for
-small : (most : ℕ) (m : Natural) (n : ℕ) → countTo most m ≡ count.Is n → n ≤ most
-unfolding countTo
-small most (Number v) n e = by-test (leb v most) refl e
-  where
-    by-test : (b : Bool) → leb v most ≡ b → cond b (count.Is v) (count.Not BeyondType) ≡ count.Is n → n ≤ most
-    by-test true h q = let same : v ≡ n = cc in rw same at (leb→le v most (rw h tt))
-    by-test false h q = not-is _ _ q
-small most NoNumber n e = not-is _ _ e
-
-pub byte-small : (w : List ℕ) (n : ℕ) (r : Count) → r ≡ byte w → r ≡ count.Is n → n ≤ 255
-byte-small w n r p e = small 255 _ n (sym p ∙ e)
 
 pub whole-value : (w cut : List ℕ) (z : ℤ) (r : Signed) → r ≡ signedOf (integerOf w) → w ≡ cut → r ≡ signed.Is z → z ≡ wholeIn (signedOf (integerOf cut))
 unfolding wholeIn

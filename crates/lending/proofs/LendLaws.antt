@@ -9,7 +9,7 @@ use lib.Seq.{drop-drop}
 use Rattle.commands.specs.Verbs.{verbOf, takesWords}
 use Rattle.commands.specs.Rows.{rowOf, placesOf, kindOf}
 use Rattle.commands.specs.Words.{wordsOf, word, afterWord}
-use Rattle.commands.specs.Commands.{number, valuesJudged, onceGood, withNumber, withPair, withRow, lendAsked, showAsked, asked, pairIn, lineJudged, commandOf}
+use Rattle.commands.specs.Commands.{number, byte, valuesJudged, onceGood, withNumber, withPair, withRow, lendAsked, showAsked, asked, pairIn, lineJudged, commandOf}
 use Rattle.commands.specs.declared.Fault.the-variants.{WordCount, LongRow}
 use Rattle.commands.specs.declared.Call.the-variants as call
 use Rattle.commands.specs.declared.Shown.the-variants.{First}
@@ -49,10 +49,10 @@ module _ (values : List (List ℕ)) where
   with-number (count.Is v) r = record {}
   with-number (count.Not f) r = record {}
 
-  with-pair : (n : Pair) (r : ℕ → ℕ → Request) → Promised values (withPair n (λ a b. Other (r a b)))
+  with-pair : (n : Pair) (go : ℕ → ℕ → Command) → ((a b : ℕ) → Promised values (go a b)) → Promised values (withPair n go)
   unfolding withPair
-  with-pair (pair.Are a b) r = record {}
-  with-pair (pair.Not f) r = record {}
+  with-pair (pair.Are a b) go p = p a b
+  with-pair (pair.Not f) go p = record {}
 
   with-row : (n : RowName) (go : Row → Command) → ((row : Row) → Promised values (go row)) → Promised values (withRow n go)
   unfolding withRow
@@ -84,9 +84,9 @@ module _ (values : List (List ℕ)) where
   verb-promised verb.Co ws e = record {}
   verb-promised verb.Build ws e = record {}
   verb-promised verb.Check ws e = record {}
-  verb-promised verb.Update ws e = with-pair (pairIn ws) (λ a b. request.Call (call.Update a b))
-  verb-promised verb.Search ws e = with-pair (pairIn ws) (λ a b. request.Call (call.Search a b))
-  verb-promised verb.Boxed ws e = with-pair (pairIn ws) (λ a b. request.Call (call.Boxed a b))
+  verb-promised verb.Update ws e = with-pair (pairIn ws) _ (λ arc weight. with-number (byte (word 2 ws)) (λ b. request.Call (call.Update arc weight b)))
+  verb-promised verb.Search ws e = with-pair (pairIn ws) _ (λ s t. record {})
+  verb-promised verb.Boxed ws e = with-pair (pairIn ws) _ (λ s t. record {})
   verb-promised (verb.Write format) ws e = record {}
   verb-promised (verb.Save format) ws e = record {}
   verb-promised verb.Fresh ws e = record {}

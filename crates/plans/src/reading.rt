@@ -4,7 +4,7 @@ ghost use mathlib.Core.Path.{_≡_};
 ghost use lib.ListN.{length};
 ghost use Rattle.files.specs.File.{Within, heldIn};
 ghost use Rattle.commands.specs.Rows.{stretchOf};
-ghost use Rattle.commands.specs.declared.rows.Row.the-variants.{Tails, Heads, Weights, X, Y};
+ghost use Rattle.commands.specs.declared.rows.Row.the-variants.{Tails, Heads, Weights, Closed, X, Y};
 ghost use Rattle.commands.specs.declared.Request.the-variants as request;
 ghost use Rattle.lending.specs.Stores.{partAt};
 ghost use Rattle.desk.specs.Desk.{desk};
@@ -16,8 +16,10 @@ use calls::texts::read_places;
 use commands::rows::Row;
 use files::File;
 use lending::rows::Lent;
+use lending::rows::fetch_bytes;
 use lending::rows::fetch_counts;
 use lending::rows::fetch_numbers;
+use lending::rows::give_bytes;
 use lending::rows::give_counts;
 use lending::rows::give_numbers;
 use pages::PAGE;
@@ -30,19 +32,21 @@ fn graph_in(
     lent: Lent,
     counts: &mut [u32],
     numbers: &[i32],
-    bytes: &[u8],
+    bytes: &mut [u8],
     tails: &mut [u32],
     heads: &mut [u32],
     weights: &mut [u32],
+    closures: &mut [u8],
 ) -> Done
-    requires { ⌜ (length (now counts) ≡ 32768) × (now tails ≡ partAt lent (stretchOf Tails) (now counts)) × (now heads ≡ partAt lent (stretchOf Heads) (now counts)) × (now weights ≡ partAt lent (stretchOf Weights) (now counts)) × Within (length (now text)) file ⌝ }
-    ensures { λ r. let before = desk sizes lent (now (counts .entry)) (now (numbers .entry)) (now (bytes .entry)) in let after = desk (r .sizes) lent (now (counts .exit)) (now (numbers .entry)) (now (bytes .entry)) in ⌜ Met (heldIn (now (text .entry)) file) before request.ReadGr after (now (page .entry)) (r .end) (now (page .exit)) ⌝ }
+    requires { ⌜ (length (now counts) ≡ 32768) × (length (now bytes) ≡ 49152) × (now tails ≡ partAt lent (stretchOf Tails) (now counts)) × (now heads ≡ partAt lent (stretchOf Heads) (now counts)) × (now weights ≡ partAt lent (stretchOf Weights) (now counts)) × (now closures ≡ partAt lent (stretchOf Closed) (now bytes)) × Within (length (now text)) file ⌝ }
+    ensures { λ r. let before = desk sizes lent (now (counts .entry)) (now (numbers .entry)) (now (bytes .entry)) in let after = desk (r .sizes) lent (now (counts .exit)) (now (numbers .entry)) (now (bytes .exit)) in ⌜ Met (heldIn (now (text .entry)) file) before request.ReadGr after (now (page .entry)) (r .end) (now (page .exit)) ⌝ }
     ensures { λ r. ⌜ r .end ≤ 1000 ⌝ }
 {
-    let done = read_graph(page, text, file, sizes, tails, heads, weights);
+    let done = read_graph(page, text, file, sizes, tails, heads, weights, closures);
     give_counts(counts, Row::Tails, tails);
     give_counts(counts, Row::Heads, heads);
     give_counts(counts, Row::Weights, weights);
+    give_bytes(bytes, Row::Closed, closures);
     done
 }
 
@@ -54,18 +58,20 @@ pub fn graph(
     lent: Lent,
     counts: &mut [u32],
     numbers: &[i32],
-    bytes: &[u8],
+    bytes: &mut [u8],
 ) -> Done
-    requires { ⌜ (length (now counts) ≡ 32768) × Within (length (now text)) file ⌝ }
-    ensures { λ r. let before = desk sizes lent (now (counts .entry)) (now (numbers .entry)) (now (bytes .entry)) in let after = desk (r .sizes) lent (now (counts .exit)) (now (numbers .entry)) (now (bytes .entry)) in ⌜ Met (heldIn (now (text .entry)) file) before request.ReadGr after (now (page .entry)) (r .end) (now (page .exit)) ⌝ }
+    requires { ⌜ (length (now counts) ≡ 32768) × (length (now bytes) ≡ 49152) × Within (length (now text)) file ⌝ }
+    ensures { λ r. let before = desk sizes lent (now (counts .entry)) (now (numbers .entry)) (now (bytes .entry)) in let after = desk (r .sizes) lent (now (counts .exit)) (now (numbers .entry)) (now (bytes .exit)) in ⌜ Met (heldIn (now (text .entry)) file) before request.ReadGr after (now (page .entry)) (r .end) (now (page .exit)) ⌝ }
     ensures { λ r. ⌜ r .end ≤ 1000 ⌝ }
 {
     let mut tails = [0u32; 4096];
     let mut heads = [0u32; 4096];
     let mut weights = [0u32; 4096];
+    let mut closures = [0u8; 4096];
     let a = fetch_counts(counts, lent, Row::Tails, &mut tails);
     let b = fetch_counts(counts, lent, Row::Heads, &mut heads);
     let c = fetch_counts(counts, lent, Row::Weights, &mut weights);
+    let d = fetch_bytes(bytes, lent, Row::Closed, &mut closures);
     graph_in(
         page,
         text,
@@ -78,6 +84,7 @@ pub fn graph(
         &mut tails[..a],
         &mut heads[..b],
         &mut weights[..c],
+        &mut closures[..d],
     )
 }
 

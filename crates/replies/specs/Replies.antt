@@ -21,7 +21,7 @@ okLine = bytes "ok\n"
 unfoldable pub helpLine : List ℕ
 helpLine =
     bytes "commands: n N, m M, lend ROW VALUES, show ROW, show ROW K, gr FILE, co FILE, build, check, "
-    ++ bytes "update ARC WEIGHT, search S T, boxed S T, write gr, write co, save gr FILE, save co FILE, fresh, help; rows: tails, heads, weights, x, y, boxes, route, text\n"
+    ++ bytes "update ARC WEIGHT BYTE, search S T, boxed S T, write gr, write co, save gr FILE, save co FILE, fresh, help; rows: tails, heads, weights, x, y, boxes, route, text, closed\n"
 
 -- `build`, `check`, `update`: `ok`, or why the call was refused
 unfoldable pub judgedLine : Judged → List ℕ

@@ -2,7 +2,7 @@
 use Prim.Native.Nat.{ℕ}
 use mathlib.Core.List.{List, [], _∷_}
 use Rattle.rules.specs.declared.Refusal.{Refusal}
-use Rattle.rules.specs.declared.Refusal.the-variants.{TextTooLong, RowTooShort, NoForm, OutOfOrder, BeyondLimits, CountsDisagree, NodeAgain, BadArc, BadCoordinate, BadBox, NotInNetwork, NoWalk, BoxMisses}
+use Rattle.rules.specs.declared.Refusal.the-variants.{TextTooLong, RowTooShort, NoForm, OutOfOrder, BeyondLimits, CountsDisagree, NodeAgain, BadArc, BadCoordinate, BadBox, NotInNetwork, NoWalk, BoxMisses, BadClosure}
 use Rattle.rules.specs.declared.Judged.{Judged}
 use Rattle.rules.specs.declared.Judged.the-variants.{Fine, Refused}
 
@@ -26,6 +26,7 @@ refusal (BadBox arc) = record { number = 10; values = arc ∷ [] }
 refusal NotInNetwork = record { number = 11; values = [] }
 refusal (NoWalk settled) = record { number = 12; values = settled ∷ [] }
 refusal (BoxMisses arc node) = record { number = 13; values = arc ∷ node ∷ [] }
+refusal (BadClosure arc) = record { number = 14; values = arc ∷ [] }
 
 abbrev pub numberOf : Refusal → ℕ
 numberOf r = refusal r .number

@@ -10,7 +10,7 @@ pub const NODES: u32 = 512;
 
 pub const ARCS: u32 = 2048;
 
-// The heaviest weight, in tenths of a second; a closed track has it.
+// The heaviest weight, in tenths of a second.
 pub const WEIGHT: u32 = 1000000;
 
 // Coordinates, in millimetres, run from the first to the second.
@@ -49,6 +49,8 @@ pub enum Refusal {
     NoWalk { settled: u32 },
     // 13: a box misses a node of its S(e)
     BoxMisses { arc: u32, node: u32 },
+    // 14: an arc's closure is a byte other than 0 or 1
+    BadClosure { arc: u32 },
 }
 
 // What a step that only judges answers.
@@ -115,6 +117,7 @@ impl Refusal {
             Refusal::NotInNetwork => alone(11),
             Refusal::NoWalk { settled } => with(12, settled),
             Refusal::BoxMisses { arc, node } => with_two(13, arc, node),
+            Refusal::BadClosure { arc } => with(14, arc),
         }
     }
 

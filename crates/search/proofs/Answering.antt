@@ -8,7 +8,7 @@ use mathlib.Core.List.{List}
 use lib.ListN.{length}
 use Rattle.rules.specs.declared.Refusal.the-variants.{NoWalk}
 use Rattle.walks.specs.Walk.{Net, kept}
-use Rattle.walks.specs.Rows.{Rows, Sound, network}
+use Rattle.walks.specs.Rows.{Rows, Sound, laid}
 use Rattle.walks.proofs.CountLaws.{count-most}
 use Rattle.walks.specs.Settled as counts
 use Rattle.settling.specs.declared.Outcome.{Outcome}
@@ -36,7 +36,7 @@ module _
       | inr e ↦ omega (arith, settled-small (search-missed sound {keep = keep} low high t e .settled), sound .nodes-high)
     ])
 
-    pub none-answers : o .found ≡ false → Answers (kept keep (network m R)) n s t row (paper (Refused (NoWalk (o .count)))) row
+    pub none-answers : o .found ≡ false → Answers (kept keep (laid m R)) n s t row (paper (Refused (NoWalk (o .count)))) row
     none-answers e = rw run (none (search-missed sound low high t (rw run at e)))
 
     module _ (e : o .found ≡ true) where
@@ -44,5 +44,5 @@ module _
       route-fits = rw run (let a = search-found sound low high t (rw run at e) row long in omega (arith, a .few))
 
       pub found-answers : {after : List ℕ} → after ≡ traceOf R keep m (o .labels) (arcsOf (o .labels) t) t row
-          → Answers (kept keep (network m R)) n s t row (paper (Found (lengthOf (o .labels) t) (arcsOf (o .labels) t) (o .count))) after
+          → Answers (kept keep (laid m R)) n s t row (paper (Found (lengthOf (o .labels) t) (arcsOf (o .labels) t) (o .count))) after
       found-answers h = rw h (rw run (let a = search-found sound low high t (rw run at e) row long in rw (a .written) (found (a .found))))

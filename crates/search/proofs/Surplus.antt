@@ -13,7 +13,7 @@ use Rattle.rules.specs.Paper.{Reply}
 use Rattle.rules.specs.declared.Judged.{Judged}
 use Rattle.rules.specs.declared.Judged.the-variants.{Fine}
 use Rattle.walks.specs.Walk.{Net, kept}
-use Rattle.walks.specs.Rows.{Rows, network}
+use Rattle.walks.specs.Rows.{Rows, laid, isOpen, network}
 use Rattle.walks.specs.Search.{Found}
 use Rattle.walks.proofs.SearchLaws.{found-unique, not-both}
 use Rattle.settling.proofs.Choice.{either}
@@ -25,7 +25,7 @@ use Rattle.judging.proofs.FineLaws.{SearchLent, search-fine, boxed-fine}
 use Rattle.search.specs.Says.{Answers, found, none, Says, refused, answered, SearchSays, BoxedSays, holding}
 use Rattle.search.proofs.SaysLaws.{says-unique}
 use Rattle.search.proofs.Alike.{Alike, other-way, found-alike, no-walk-alike}
-use Rattle.search.proofs.Networks.{all-arcs, held-arcs}
+use Rattle.search.proofs.Networks.{open-arcs, held-arcs}
 use Rattle.search.proofs.Cut.{network-cut}
 
 -- ---- The route row
@@ -42,7 +42,7 @@ row-cut route before n short long =
 
 -- a route has fewer arcs than there are nodes
 short :
-    {n m : ℕ} {R : Rows} (keep : ℕ → Bool) {N : Net} {s t : ℕ} (before : List ℕ) → SearchLent n m R s t (length before) → Alike N (kept keep (network m R))
+    {n m : ℕ} {R : Rows} (keep : ℕ → Bool) {N : Net} {s t : ℕ} (before : List ℕ) → SearchLent n m R s t (length before) → Alike N (kept keep (laid m R))
     → (d k c : ℕ) (route : List ℕ) → Found N n s t d k c route → length route ≤ n
 short {n} {m} {R} keep {N} {s} {t} before l x d k c route f = elim (either (searchOf R keep n m t s .found)) [
   | inl e ↦
@@ -73,14 +73,18 @@ module _ (n m : ℕ) (R : Rows) (s t : ℕ) (before : List ℕ) where
   search-cut says =
       says-cut (search-judged-cut n m R s t before) (λ e.
       let l = search-fine n m R s t (length before) e in
-      (network-cut m R, l .room, short (λ e. true) before l (other-way (all-arcs (network m R))))) says
+      (network-cut m R, l .room, short (isOpen (R .closures)) before l (other-way (open-arcs m R)))) says
 
   module _ (x y boxes : List ℤ) where
     holding-cut : 1 ≤ t → t ≤ n → Alike (holding x y boxes t (network m R)) (holding (take n x) (take n y) (take (4 * m) boxes) t (network m (cut m R)))
-    unfolding network
+    unfolding laid network
     holding-cut low high = record {
-      there = λ e a. (a .0, rw (box-cut m boxes e (a .0 .0) (a .0 .1), place-cut n x t low high, place-cut n y t low high) (a .1));
-      back = λ e a. (a .0, rw (box-cut m boxes e (a .0 .0) (a .0 .1), place-cut n x t low high, place-cut n y t low high) at (a .1));
+      there = λ e a.
+          let i = a .0 .0 in
+          (network-cut m R .there e (a .0), rw (box-cut m boxes e (i .0) (i .1), place-cut n x t low high, place-cut n y t low high) (a .1));
+      back = λ e a.
+          let i = a .0 .0 in
+          (network-cut m R .back e (a .0), rw (box-cut m boxes e (i .0) (i .1), place-cut n x t low high, place-cut n y t low high) at (a .1));
       tail = λ e a. network-cut m R .tail e (a .0);
       head = λ e a. network-cut m R .head e (a .0);
       weight = λ e a. network-cut m R .weight e (a .0);
@@ -91,7 +95,7 @@ module _ (n m : ℕ) (R : Rows) (s t : ℕ) (before : List ℕ) where
     boxed-cut says =
         says-cut (boxed-judged-cut n m R x y boxes s t before) (λ e.
         let l = boxed-fine n m R s t (length before) x y boxes e .0 in
-        (holding-cut (l .target-low) (l .target-high), l .room, short _ before l (other-way (held-arcs x y boxes t (network m R))))) says
+        (holding-cut (l .target-low) (l .target-high), l .room, short _ before l (other-way (held-arcs x y boxes t m R)))) says
 
 -- two calls whose rows agree on the places that are needed have the same reply and write the same
 module _

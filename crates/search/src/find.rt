@@ -2,7 +2,7 @@
 ghost use Prim.Native.Nat.{_≤_};
 ghost use lib.ListN.{length};
 ghost use Rattle.walks.specs.Walk.{kept};
-ghost use Rattle.walks.specs.Rows.{rows, Sound, network};
+ghost use Rattle.walks.specs.Rows.{rows, Sound, laid};
 ghost use Rattle.settling.specs.Toward.{Room, keeps};
 ghost use Rattle.search.specs.Paper.{paper};
 ghost use Rattle.search.specs.Says.{Answers};
@@ -19,23 +19,35 @@ pub fn find(
     tails: &[u32],
     heads: &[u32],
     weights: &[u32],
+    closures: &[u8],
     toward: Toward,
     boxes: &[i32],
     s: usize,
     t: usize,
     route: &mut [u32],
 ) -> Answer
-    requires { ⌜ Sound n m (rows (now tails) (now heads) (now weights)) × Room toward m (now boxes) × (1 ≤ s) × (s ≤ n) × (1 ≤ t) × (t ≤ n) × (n ≤ length (now route)) ⌝ }
-    ensures { λ r. ⌜ Answers (kept (keeps toward (now (boxes .entry))) (network m (rows (now (tails .entry)) (now (heads .entry)) (now (weights .entry))))) n s t (now (route .entry)) (paper r) (now (route .exit)) ⌝ }
+    requires { ⌜ Sound n m (rows (now tails) (now heads) (now weights) (now closures)) × Room toward m (now boxes) × (1 ≤ s) × (s ≤ n) × (1 ≤ t) × (t ≤ n) × (n ≤ length (now route)) ⌝ }
+    ensures { λ r. ⌜ Answers (kept (keeps toward (now (closures .entry)) (now (boxes .entry))) (laid m (rows (now (tails .entry)) (now (heads .entry)) (now (weights .entry)) (now (closures .entry))))) n s t (now (route .entry)) (paper r) (now (route .exit)) ⌝ }
 {
-    let o = run(s, t, n, m, tails, heads, weights, toward, boxes);
+    let o = run(s, t, n, m, tails, heads, weights, closures, toward, boxes);
     let labels = o.labels;
     let found = o.found;
     let settled = o.count as u32;
     if !found {
         return Answer::Refused(Refusal::NoWalk { settled });
     }
-    trace(labels, t, m, tails, heads, weights, toward, boxes, route);
+    trace(
+        labels,
+        t,
+        m,
+        tails,
+        heads,
+        weights,
+        closures,
+        toward,
+        boxes,
+        route,
+    );
     Answer::Found {
         length: labels.length[t - 1],
         arcs: labels.arcs[t - 1],

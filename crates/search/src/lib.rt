@@ -25,13 +25,14 @@ pub fn search(
     tails: &[u32],
     heads: &[u32],
     weights: &[u32],
+    closures: &[u8],
     s: u32,
     t: u32,
     route: &mut [u32],
 ) -> Answer
-    ensures { λ r. ⌜ SearchSays n m (rows (now (tails .entry)) (now (heads .entry)) (now (weights .entry))) s t (now (route .entry)) (paper r) (now (route .exit)) ⌝ }
+    ensures { λ r. ⌜ SearchSays n m (rows (now (tails .entry)) (now (heads .entry)) (now (weights .entry)) (now (closures .entry))) s t (now (route .entry)) (paper r) (now (route .exit)) ⌝ }
 {
-    let j = judging::judge_search(n, m, tails, heads, weights, s, t, route.len());
+    let j = judging::judge_search(n, m, tails, heads, weights, closures, s, t, route.len());
     let Judged::Refused(r) = j else {
         // of no arc is a box asked
         let boxes = [0i32; 1];
@@ -41,6 +42,7 @@ pub fn search(
             tails,
             heads,
             weights,
+            closures,
             Toward::Anywhere,
             &boxes,
             s as usize,
@@ -58,6 +60,7 @@ pub fn search_boxed(
     tails: &[u32],
     heads: &[u32],
     weights: &[u32],
+    closures: &[u8],
     x: &[i32],
     y: &[i32],
     boxes: &[i32],
@@ -65,9 +68,22 @@ pub fn search_boxed(
     t: u32,
     route: &mut [u32],
 ) -> Answer
-    ensures { λ r. ⌜ BoxedSays n m (rows (now (tails .entry)) (now (heads .entry)) (now (weights .entry))) (now (x .entry)) (now (y .entry)) (now (boxes .entry)) s t (now (route .entry)) (paper r) (now (route .exit)) ⌝ }
+    ensures { λ r. ⌜ BoxedSays n m (rows (now (tails .entry)) (now (heads .entry)) (now (weights .entry)) (now (closures .entry))) (now (x .entry)) (now (y .entry)) (now (boxes .entry)) s t (now (route .entry)) (paper r) (now (route .exit)) ⌝ }
 {
-    let j = judging::judge_boxed(n, m, tails, heads, weights, x, y, boxes, s, t, route.len());
+    let j = judging::judge_boxed(
+        n,
+        m,
+        tails,
+        heads,
+        weights,
+        closures,
+        x,
+        y,
+        boxes,
+        s,
+        t,
+        route.len(),
+    );
     let Judged::Refused(r) = j else {
         let at = t as usize - 1;
         return find::find(
@@ -76,6 +92,7 @@ pub fn search_boxed(
             tails,
             heads,
             weights,
+            closures,
             Toward::Place(x[at], y[at]),
             boxes,
             s as usize,

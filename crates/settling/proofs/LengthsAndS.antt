@@ -6,8 +6,8 @@ use mathlib.Core.Path.{_≡_, refl, sym, subst, _∙_}
 use lib.Dec.{ltb, eqb}
 use borrow.Author.Tests.{lt-ltb, ltb-true, eqb-true, eq-eqb}
 use Rattle.walks.specs.Walk.{Net, reverse}
-use Rattle.walks.proofs.WalkLaws.{backward, kept-all}
-use Rattle.walks.specs.Rows.{Rows, network, turned, Sound}
+use Rattle.walks.proofs.WalkLaws.{backward}
+use Rattle.walks.specs.Rows.{Rows, laid, isOpen, network, turned, Sound}
 use Rattle.walks.proofs.RowsLaws.{turned-network, turned-sound}
 use Rattle.walks.specs.Least.{Reached, Dist}
 use Rattle.walks.proofs.LeastLaws.{best-dist, dist-turned, dist-sized, dist-unique}
@@ -55,21 +55,22 @@ module _ {N : Net} {e t head tail : ℕ} where
 module _ {R : Rows} {n m : ℕ} (sound : Sound n m R) {t : ℕ} (low : 1 ≤ t) (high : t ≤ n) where
   -- they are the lengths to t
   pub lengths-to : (v : ℕ) → 1 ≤ v → v ≤ n → LengthTo (network m R) v t (lengthOf (towardOf R n m t) v)
+  unfolding network
   lengths-to v v-low v-high =
       let L = towardOf R n m t in
-      let same = kept-all (network m (turned R)) ∙ turned-network m R in
-      turned-label (subst (λ (N : Net). Label N t v (lengthOf L v) (arcsOf L v)) same (all-labels (turned-sound sound) low high v v-low v-high))
+      turned-label (subst (λ (N : Net). Label N t v (lengthOf L v) (arcsOf L v)) (turned-network m R) (all-labels (turned-sound sound) low high v v-low v-high))
 
   -- and they tell S(e)
   module _ (e : ℕ) (e-low : 1 ≤ e) (e-high : e ≤ m) where
     pub test-inS : isInS R (towardOf R n m t) e ≡ true → InS (network m R) e t
-    unfolding network
+    unfolding laid network
     test-inS p =
         let a = sound .arcs e e-low e-high in
-        shortest-inS (e-low, e-high) (a .weight-high) (lengths-to _ (a .head-low) (a .head-high)) (lengths-to _ (a .tail-low) (a .tail-high)) p
+        let y = and-true (isOpen (R .closures) e) _ p in
+        shortest-inS ((e-low, e-high), y .0) (a .weight-high) (lengths-to _ (a .head-low) (a .head-high)) (lengths-to _ (a .tail-low) (a .tail-high)) (y .1)
 
     pub inS-test : InS (network m R) e t → isInS R (towardOf R n m t) e ≡ true
-    unfolding network
+    unfolding laid network
     inS-test i =
         let a = sound .arcs e e-low e-high in
-        inS-shortest (lengths-to _ (a .head-low) (a .head-high)) (lengths-to _ (a .tail-low) (a .tail-high)) i
+        and-yes (i .arc .1) (inS-shortest (lengths-to _ (a .head-low) (a .head-high)) (lengths-to _ (a .tail-low) (a .tail-high)) i)

@@ -9,8 +9,7 @@ use mathlib.Core.Logic.{inr}
 use mathlib.Core.List.{List, _++_}
 use lib.ListN.{length, drop}
 use Rattle.walks.specs.Walk.{Net, kept}
-use Rattle.walks.proofs.WalkLaws.{kept-all}
-use Rattle.walks.specs.Rows.{Rows, network, Sound}
+use Rattle.walks.specs.Rows.{Rows, laid, isOpen, network, Sound}
 use Rattle.walks.specs.Least.{Reached, Dist, Best}
 use Rattle.walks.proofs.LeastLaws.{best-dist, dist-unique}
 use Rattle.walks.specs.Search.{Found, NoWalk}
@@ -27,7 +26,7 @@ use Rattle.settling.proofs.TraceIsRoute.{traced}
 -- The target is found: the labels, the count and the row that the trace writes are those of the reply
 pub record Answers (R : Rows) (keep : ℕ → Bool) (n m s t : ℕ) (o : Outcome) (row : List ℕ) : Type 0 where
   pub arcs : List ℕ
-  pub found : Found (kept keep (network m R)) n s t (lengthOf (o .labels) t) (arcsOf (o .labels) t) (o .count) arcs
+  pub found : Found (kept keep (laid m R)) n s t (lengthOf (o .labels) t) (arcsOf (o .labels) t) (o .count) arcs
   pub count : length arcs ≡ arcsOf (o .labels) t
   pub few : arcsOf (o .labels) t < n
   pub near : lengthOf (o .labels) t ≤ 511_000_000
@@ -58,14 +57,14 @@ module _ {R : Rows} {n m : ℕ} (sound : Sound n m R) {keep : ℕ → Bool} {s :
       }
   answers (misses stage out left) e row long = absurd (false≢true e)
 
-  missed : {t : ℕ} {o : Outcome} → Ends R keep n m s t o → o .found ≡ false → NoWalk (kept keep (network m R)) n s t (o .count)
+  missed : {t : ℕ} {o : Outcome} → Ends R keep n m s t o → o .found ≡ false → NoWalk (kept keep (laid m R)) n s t (o .count)
   missed (finds stage next) e = absurd (true≢false e)
   missed {t} (misses stage out left) e = record {
     none = λ r. out (reached-settled (stage .progress) left t r);
     settled = missed-count (stage .progress) left t out;
   }
 
-  limit : {t d : ℕ} {o : Outcome} → Ends R keep n m s t o → Dist (kept keep (network m R)) s t d → d ≤ 511_000_000
+  limit : {t d : ℕ} {o : Outcome} → Ends R keep n m s t o → Dist (kept keep (laid m R)) s t d → d ≤ 511_000_000
   unfolding seen
   limit {t} (finds stage next) x =
       let near = next-near sound stage next in
@@ -76,14 +75,14 @@ module _ {R : Rows} {n m : ℕ} (sound : Sound n m R) {keep : ℕ → Bool} {s :
     pub search-found : (t : ℕ) → searchOf R keep n m t s .found ≡ true → (row : List ℕ) → n ≤ length row → Answers R keep n m s t (searchOf R keep n m t s) row
     search-found t e row long = answers (search-ends sound low high) e row long
 
-    pub search-missed : (t : ℕ) → searchOf R keep n m t s .found ≡ false → NoWalk (kept keep (network m R)) n s t (searchOf R keep n m t s .count)
+    pub search-missed : (t : ℕ) → searchOf R keep n m t s .found ≡ false → NoWalk (kept keep (laid m R)) n s t (searchOf R keep n m t s .count)
     search-missed t e = missed (search-ends sound low high) e
 
     -- no shortest length by arcs that are kept exceeds 511,000,000
-    pub kept-limit : {t d : ℕ} → Dist (kept keep (network m R)) s t d → d ≤ 511_000_000
+    pub kept-limit : {t d : ℕ} → Dist (kept keep (laid m R)) s t d → d ≤ 511_000_000
     kept-limit {t} x = limit (search-ends sound {t = t} low high) x
 
-    label : {o : Outcome} → Ends R keep n m s 0 o → (v : ℕ) → 1 ≤ v → v ≤ n → Label (kept keep (network m R)) s v (lengthOf (o .labels) v) (arcsOf (o .labels) v)
+    label : {o : Outcome} → Ends R keep n m s 0 o → (v : ℕ) → 1 ≤ v → v ≤ n → Label (kept keep (laid m R)) s v (lengthOf (o .labels) v) (arcsOf (o .labels) v)
     unfolding seen
     label (finds stage next) v v-low v-high = absurd (omega (arith, next .labelled .0))
     label (misses {L = L} stage out left) v v-low v-high = elim (decLt (lengthOf L v) none) [
@@ -97,9 +96,10 @@ module _ {R : Rows} {n m : ℕ} (sound : Sound n m R) {keep : ℕ → Bool} {s :
     ]
 
     -- every node's label in a search to all nodes
-    pub all-labels : (v : ℕ) → 1 ≤ v → v ≤ n → Label (kept keep (network m R)) s v (lengthOf (labelsOf R keep n m s) v) (arcsOf (labelsOf R keep n m s) v)
+    pub all-labels : (v : ℕ) → 1 ≤ v → v ≤ n → Label (kept keep (laid m R)) s v (lengthOf (labelsOf R keep n m s) v) (arcsOf (labelsOf R keep n m s) v)
     all-labels v v-low v-high = label (search-ends sound low high) v v-low v-high
 
--- nor does one by all arcs
+-- nor does one by all open arcs
 pub length-limit : {R : Rows} {n m s t d : ℕ} → Sound n m R → 1 ≤ s → s ≤ n → Dist (network m R) s t d → d ≤ 511_000_000
-length-limit {R} {n} {m} {s} {t} {d} sound low high x = kept-limit sound {keep = λ e. true} low high (subst (λ (N : Net). Dist N s t d) (sym (kept-all (network m R))) x)
+unfolding network
+length-limit {R} sound low high x = kept-limit sound {keep = isOpen (R .closures)} low high x

@@ -8,9 +8,9 @@ use mathlib.Core.Logic.{_≢_}
 use lib.Dec.{eqb}
 use borrow.Author.Tests.{eqb-true, eq-eqb}
 use Rattle.walks.specs.Walk.{kept}
-use Rattle.walks.specs.Rows.{Rows, at, network, Sound}
+use Rattle.walks.specs.Rows.{Rows, at, laid, Sound}
 use Rattle.walks.proofs.OrderLaws.{notAfter-as}
-use Rattle.walks.proofs.Limits.{sound-within, only-within, walk-light, few-arcs}
+use Rattle.walks.proofs.Limits.{laid-within, only-within, walk-light, few-arcs}
 use Rattle.walks.specs.Settling.{Next}
 use Rattle.walks.proofs.Marking.{Relaxing, settle}
 use Rattle.walks.proofs.Relaxing.{relax-none, relax-better, relaxed-all}
@@ -26,7 +26,7 @@ use Rattle.settling.proofs.LabelsSeen.{full-labelled, full-marked, seen
 
 -- u is being settled, its label is (l, k), and of the arcs out of it those of 1..j are relaxed
 record Half (R : Rows) (keep : ℕ → Bool) (n m s c u l k j : ℕ) (L : Labels) : Type 0 where
-  relaxing : Relaxing (kept keep (network m R)) n s (seen n L) u (λ e. e ≤ j) c
+  relaxing : Relaxing (kept keep (laid m R)) n s (seen n L) u (λ e. e ≤ j) c
   full : Full n L
   length : lengthOf L u ≡ l
   arcs : arcsOf L u ≡ k
@@ -35,7 +35,7 @@ module _ {R : Rows} {n m : ℕ} (sound : Sound n m R) {keep : ℕ → Bool} wher
   module _ {s c u l k : ℕ} (near : l ≤ 511_000_000) (i : ℕ) (low : 1 ≤ i) (high : i ≤ m) {L : Labels} (h : Half R keep n m s c u l k (i - 1) L) where
     -- the arc i out of u, which may be used, offers its head a label
     offer : at (R .tails) i ≡ u → keep i ≡ true → Half R keep n m s c u l k i (offered L (at (R .heads) i) (l + at (R .weights) i) (k + 1))
-    unfolding offered network seen
+    unfolding offered laid seen
     offer from usable =
         let a = sound .arcs i low high in
         let v = at (R .heads) i in
@@ -66,7 +66,7 @@ module _ {R : Rows} {n m : ℕ} (sound : Sound n m R) {keep : ℕ → Bool} wher
         })
 
     step : Half R keep n m s c u l k i (arcStep R keep u l k (i - 1) L)
-    unfolding arcStep network
+    unfolding arcStep laid
     step =
         let back : i - 1 + 1 ≡ i = omega arith in
         cond-by (Half R keep n m s c u l k i) (eqb (at (R .tails) i) u && keep (i - 1 + 1)) _ L
@@ -98,10 +98,10 @@ module _ {R : Rows} {n m : ℕ} (sound : Sound n m R) {keep : ℕ → Bool} wher
         let P = stage .progress in
         let k = next .labelled in
         let few = few-arcs P next (k .0) (k .1) u k in
-        (few, omega (arith, walk-light (only-within (sound-within sound)) (P .walk u k), sound .nodes-high))
+        (few, omega (arith, walk-light (only-within (laid-within sound)) (P .walk u k), sound .nodes-high))
 
     pub stage-settle : Stage R keep n m s (c + 1) (settleOf R keep m L u)
-    unfolding settleOf marked seen network
+    unfolding settleOf marked seen laid
     stage-settle =
         let k = next .labelled in
         let begun = settle {Seen = λ e. e ≤ 0} (stage .progress) next (k .0) (k .1) (seen-marked n (sound .nodes-high) (stage .full) u (k .0) (k .1)) (λ e a q le. omega (arith, a .0 .0)) in

@@ -75,7 +75,7 @@ module _ {R : Rows} {boxes : List ℤ} {a : Task} {count : ℕ} {L : Labels} {tr
         sym (run-found _ _ _ _ _ count L f u (picked ∙ node) q) ∙ here .rest (f + 1) (omega arith)
 
     -- the next is another node, which is settled
-    pub stands-on : (u ≡ a .t → ⊥) → {L′ : Labels} {tree′ : List ℕ} → Become (settleOf R (keeps (a .toward) boxes) (a .m) L u) L′ tree′ → Stands R boxes a (count + 1) L′ tree′
+    pub stands-on : (u ≡ a .t → ⊥) → {L′ : Labels} {tree′ : List ℕ} → Become (settleOf R (keeps (a .toward) (R .closures) boxes) (a .m) L u) L′ tree′ → Stands R boxes a (count + 1) L′ tree′
     stands-on q b = record {
       posed = here .posed;
       high = omega (arith, stands-below);

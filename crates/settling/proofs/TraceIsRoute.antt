@@ -11,7 +11,7 @@ use lib.Seq.{drop-cons, drop-set-lt, getD-set-same}
 use lib.Dec.{eqb}
 use borrow.Author.Tests.{eqb-true, eq-eqb}
 use Rattle.walks.specs.Walk.{kept}
-use Rattle.walks.specs.Rows.{Rows, at, network, Sound}
+use Rattle.walks.specs.Rows.{Rows, at, laid, Sound}
 use Rattle.walks.specs.Route.{Route, start, into}
 use Rattle.walks.specs.Settling.{Next}
 use Rattle.walks.proofs.Tracing.{Fits, fits-chosen, some-fits, traced-start, fits-settled}
@@ -36,8 +36,8 @@ fits-true l k w l′ k′ =
 -- ---- The test on labels is that of the mathematics
 
 module _ {R : Rows} {n m : ℕ} (sound : Sound n m R) (keep : ℕ → Bool) (L : Labels) (v e : ℕ) where
-  tested : 1 ≤ e → e ≤ m → lengthOf L v < none → arcFits R keep L v (e - 1) ≡ true → Fits (kept keep (network m R)) (seen n L) v e
-  unfolding arcFits network seen
+  tested : 1 ≤ e → e ≤ m → lengthOf L v < none → arcFits R keep L v (e - 1) ≡ true → Fits (kept keep (laid m R)) (seen n L) v e
+  unfolding arcFits laid seen
   tested low high near t =
       let back : e - 1 + 1 ≡ e = omega arith in
       let u = at (R .tails) e in
@@ -53,8 +53,8 @@ module _ {R : Rows} {n m : ℕ} (sound : Sound n m R) (keep : ℕ → Bool) (L :
         arcs = f .1;
       }
 
-  tests : Fits (kept keep (network m R)) (seen n L) v e → (1 ≤ e) × (e ≤ m) × (arcFits R keep L v (e - 1) ≡ true)
-  unfolding network seen
+  tests : Fits (kept keep (laid m R)) (seen n L) v e → (1 ≤ e) × (e ≤ m) × (arcFits R keep L v (e - 1) ≡ true)
+  unfolding laid seen
   tests f =
       let low = f .arc .0 .0 in
       let back : e - 1 + 1 ≡ e = omega arith in
@@ -65,11 +65,11 @@ module _ {R : Rows} {n m : ℕ} (sound : Sound n m R) (keep : ℕ → Bool) (L :
 -- e is found, and is the lowest-numbered that fits
 record Found (R : Rows) (keep : ℕ → Bool) (n m : ℕ) (L : Labels) (v e : ℕ) : Type 0 where
   found : intoOf R keep L v m ≡ Arc e
-  here : Fits (kept keep (network m R)) (seen n L) v e
-  lowest : (i : ℕ) → Fits (kept keep (network m R)) (seen n L) v i → e ≤ i
+  here : Fits (kept keep (laid m R)) (seen n L) v e
+  lowest : (i : ℕ) → Fits (kept keep (laid m R)) (seen n L) v i → e ≤ i
 
 module _ {R : Rows} {n m : ℕ} (sound : Sound n m R) (keep : ℕ → Bool) (L : Labels) (v : ℕ) (near : lengthOf L v < none) where
-  looked : {x : ℕ} → Fits (kept keep (network m R)) (seen n L) v x → (f : Into) → intoOf R keep L v m ≡ f → (e : ℕ) × Found R keep n m L v e
+  looked : {x : ℕ} → Fits (kept keep (laid m R)) (seen n L) v x → (f : Into) → intoOf R keep L v m ≡ f → (e : ℕ) × Found R keep n m L v e
   unfolding intoOf
   looked {x} y Nothing q =
       let z = tests sound keep L v x y in
@@ -95,7 +95,7 @@ stored row front k e h =
 -- the k arcs of the route to v, and the row that is traced from v
 pub record Traced (R : Rows) (keep : ℕ → Bool) (m s : ℕ) (L : Labels) (k v : ℕ) (row : List ℕ) : Type 0 where
   pub arcs : List ℕ
-  pub route : Route (kept keep (network m R)) s v arcs
+  pub route : Route (kept keep (laid m R)) s v arcs
   pub count : length arcs ≡ k
   pub written : traceOf R keep m L k v row ≡ arcs ++ drop k row
 
@@ -103,7 +103,7 @@ module _ {R : Rows} {n m : ℕ} (sound : Sound n m R) {keep : ℕ → Bool} {s t
   -- one arc more, into a node v that is settled or is the target
   onward : {k v e : ℕ} {row : List ℕ} → seen n L .Settled v ⊎ (v ≡ t) → k < length row → Found R keep n m L v e
       → Traced R keep m s L k (at (R .tails) e) (set row k e) → Traced R keep m s L (suc k) v row
-  unfolding network
+  unfolding laid
   onward {k} {v} {e} {row} which h f r = record {
     arcs = r .arcs ++ e ∷ [];
     route = into e (fits-chosen (stage .progress) next which e (f .here) (f .lowest)) (r .route);
@@ -112,10 +112,10 @@ module _ {R : Rows} {n m : ℕ} (sound : Sound n m R) {keep : ℕ → Bool} {s t
   }
 
   pub traced : (k v : ℕ) (row : List ℕ) → seen n L .Settled v ⊎ (v ≡ t) → lengthOf L v < none → arcsOf L v ≡ k → k ≤ length row → Traced R keep m s L k v row
-  unfolding traceOf seen network
+  unfolding traceOf seen laid
   traced zero v row which near a h = record {
     arcs = [];
-    route = subst (λ (x : ℕ). Route (kept keep (network m R)) s x []) (sym (traced-start (stage .progress) next which a)) start;
+    route = subst (λ (x : ℕ). Route (kept keep (laid m R)) s x []) (sym (traced-start (stage .progress) next which a)) start;
     count = refl;
     written = refl;
   }

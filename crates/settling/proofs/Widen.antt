@@ -19,6 +19,7 @@ widened s = record {
   tails-long = s .tails-long;
   heads-long = s .heads-long;
   weights-long = s .weights-long;
+  closures-long = s .closures-long;
   arcs = λ e low high.
       let a = s .arcs e low high in
       record { tail-low = a .tail-low; tail-high = omega arith; head-low = a .head-low; head-high = omega arith; weight-high = a .weight-high };

@@ -4,7 +4,7 @@ use mathlib.Core.Bool.{Bool}
 use mathlib.Core.Path.{_≡_}
 use lib.ListN.{length, getD}
 use Rattle.walks.specs.Walk.{kept}
-use Rattle.walks.specs.Rows.{Rows, network}
+use Rattle.walks.specs.Rows.{Rows, laid}
 use Rattle.walks.specs.Settling.{Progress, All}
 use Rattle.settling.specs.declared.Labels.{Labels}
 use Rattle.settling.specs.Labels.{none, lengthOf, arcsOf}
@@ -24,7 +24,7 @@ pub record Full (n : ℕ) (L : Labels) : Type 0 where
 
 -- a search from s has c nodes settled, and these labels
 pub record Stage (R : Rows) (keep : ℕ → Bool) (n m s c : ℕ) (L : Labels) : Type 0 where
-  pub progress : Progress (kept keep (network m R)) n s (seen n L) All c
+  pub progress : Progress (kept keep (laid m R)) n s (seen n L) All c
   pub full : Full n L
 
 -- u is a node, and its label has room for one more arc

@@ -16,18 +16,18 @@ use Rattle.settling.specs.Front.{Front}
 
 -- the outcome of the run that is asked
 abbrev pub outcomeOf : Rows → List ℤ → Task → Outcome
-outcomeOf R boxes a = searchOf R (keeps (a .toward) boxes) (a .n) (a .m) (a .t) (a .s)
+outcomeOf R boxes a = searchOf R (keeps (a .toward) (R .closures) boxes) (a .n) (a .m) (a .t) (a .s)
 
 -- the rest of the run, from these labels with `count` nodes settled, gives that outcome
 abbrev pub Rest : Rows → List ℤ → Task → ℕ → Labels → Type 0
 Rest R boxes a count L =
-    (fuel : ℕ) → fuel + count ≡ a .n → runOf R (keeps (a .toward) boxes) (a .n) (a .m) (a .t) fuel count L ≡ outcomeOf R boxes a
+    (fuel : ℕ) → fuel + count ≡ a .n → runOf R (keeps (a .toward) (R .closures) boxes) (a .n) (a .m) (a .t) fuel count L ≡ outcomeOf R boxes a
 
 -- A run stands here: `count` nodes are settled, these are the labels, this is their tree, and the run goes on to its outcome.
 pub record Stands (R : Rows) (boxes : List ℤ) (a : Task) (count : ℕ) (L : Labels) (tree : List ℕ) : Type 0 where
   pub posed : Posed a R boxes
   pub high : count ≤ a .n
-  pub stage : Stage R (keeps (a .toward) boxes) (a .n) (a .m) (a .s) count L
+  pub stage : Stage R (keeps (a .toward) (R .closures) boxes) (a .n) (a .m) (a .s) count L
   pub front : Front L tree
   pub rest : Rest R boxes a count L
 

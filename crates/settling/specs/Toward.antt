@@ -1,20 +1,20 @@
 -- Which arcs a search may use, and what it is asked.
 use Prim.Native.Nat.{ℕ, _*_, _≤_}
-use mathlib.Core.Bool.{Bool, true}
+use mathlib.Core.Bool.{Bool, _&&_}
 use mathlib.Core.List.{List}
 use lib.IntN.{ℤ}
 use lib.ListN.{length}
 use Rattle.geometry.specs.Box.{holdsB}
 use Rattle.geometry.specs.Row.{boxOf}
-use Rattle.walks.specs.Rows.{Rows, Sound}
+use Rattle.walks.specs.Rows.{Rows, isOpen, Sound}
 use Rattle.settling.specs.declared.Task.{Task}
 use Rattle.settling.specs.declared.Toward.{Toward}
 use Rattle.settling.specs.declared.Toward.the-variants.{Anywhere, Place}
 
--- an arc may be used: any, or one whose box holds the place
-abbrev pub keeps : Toward → List ℤ → ℕ → Bool
-keeps Anywhere boxes e = true
-keeps (Place x y) boxes e = holdsB (boxOf boxes e) x y
+-- an arc may be used: any that is open, or one that is open and whose box holds the place
+abbrev pub keeps : Toward → List ℕ → List ℤ → ℕ → Bool
+keeps Anywhere closures boxes e = isOpen closures e
+keeps (Place x y) closures boxes e = isOpen closures e && holdsB (boxOf boxes e) x y
 
 -- where boxes are asked, the row holds those of m arcs
 abbrev pub Room : Toward → ℕ → List ℤ → Type 0

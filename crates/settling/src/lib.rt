@@ -1,6 +1,7 @@
 // The search by labels: label arrays, the settling step, the run, and the route traced back.
 ghost use mathlib.Core.Path.{_≡_};
 ghost use Prim.Native.Nat.{_≤_};
+ghost use lib.ListN.{length};
 ghost use Rattle.settling.specs.Toward.{Room, keeps};
 
 mod label;
@@ -37,7 +38,7 @@ pub enum Into {
     Nothing,
 }
 
-// Which arcs a search may use: all, or only those whose box holds a place.
+// Which open arcs a search may use: all, or only those whose box holds a place.
 pub enum Toward {
     Anywhere,
     Place(i32, i32),
@@ -53,10 +54,13 @@ pub struct Task {
 }
 
 // Whether a search may use arc `e`.
-fn passes(toward: Toward, boxes: &[i32], e: usize) -> bool
-    requires { ⌜ (1 ≤ e) × Room toward e (now boxes) ⌝ }
-    ensures { λ r. ⌜ r ≡ keeps toward (now (boxes .entry)) e ⌝ }
+fn passes(toward: Toward, closures: &[u8], boxes: &[i32], e: usize) -> bool
+    requires { ⌜ (1 ≤ e) × (e ≤ length (now closures)) × Room toward e (now boxes) ⌝ }
+    ensures { λ r. ⌜ r ≡ keeps toward (now (closures .entry)) (now (boxes .entry)) e ⌝ }
 {
+    if closures[e - 1] != 0 {
+        return false;
+    }
     match toward {
         Toward::Anywhere => true,
         Toward::Place(x, y) => geometry::holds(boxes, e, x, y),

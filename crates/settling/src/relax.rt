@@ -22,18 +22,19 @@ pub fn settle_one(
     tails: &[u32],
     heads: &[u32],
     weights: &[u32],
+    closures: &[u8],
     first: &[u32; 512],
     next: &[u32; 2048],
     boxes: &[i32],
 )
-    requires { let R = rows (now tails) (now heads) (now weights) in
+    requires { let R = rows (now tails) (now heads) (now weights) (now closures) in
         let L = labels (now length) (now arcs) (now settled) in
         ⌜ Posed task R (now boxes) × Chained (task .m) (now tails) (now first) (now next) × Ready (task .n) L u × Front L (now tree) ⌝ }
     ensures { λ _.
-        let R = rows (now (tails .entry)) (now (heads .entry)) (now (weights .entry)) in
+        let R = rows (now (tails .entry)) (now (heads .entry)) (now (weights .entry)) (now (closures .entry)) in
         let L = labels (now (length .entry)) (now (arcs .entry)) (now (settled .entry)) in
         let L′ = labels (now (length .exit)) (now (arcs .exit)) (now (settled .exit)) in
-        ⌜ Become (settleOf R (keeps (task .toward) (now (boxes .entry))) (task .m) L u) L′ (now (tree .exit)) ⌝ }
+        ⌜ Become (settleOf R (keeps (task .toward) (now (closures .entry)) (now (boxes .entry))) (task .m) L u) L′ (now (tree .exit)) ⌝ }
 {
     let m = task.m;
     let toward = task.toward;
@@ -44,7 +45,7 @@ pub fn settle_one(
     let k = arcs[at];
     let mut j = first[at] as usize;
     while j < m {
-        if crate::passes(toward, boxes, j + 1) {
+        if crate::passes(toward, closures, boxes, j + 1) {
             let v = heads[j] as usize;
             let w = weights[j];
             offer(length, arcs, settled, tree, v, l + w, k + 1);

@@ -2,8 +2,7 @@
 ghost use mathlib.Core.Path.{_≡_};
 ghost use Prim.Native.Nat.{_≤_};
 ghost use Rattle.frontier.specs.Chain.{Chained};
-ghost use Rattle.walks.specs.Rows.{rows, Sound};
-ghost use mathlib.Core.Bool.{true};
+ghost use Rattle.walks.specs.Rows.{rows, isOpen, Sound};
 ghost use Rattle.settling.specs.Run.{searchOf, labelsOf};
 ghost use Rattle.settling.specs.Toward.{Room, Posed, keeps};
 ghost use Rattle.settling.specs.Step.{outcomeOf};
@@ -29,14 +28,15 @@ fn run_by(
     tails: &[u32],
     heads: &[u32],
     weights: &[u32],
+    closures: &[u8],
     first: &[u32; 512],
     next: &[u32; 2048],
     boxes: &[i32],
 ) -> Outcome
-    requires { let R = rows (now tails) (now heads) (now weights) in
+    requires { let R = rows (now tails) (now heads) (now weights) (now closures) in
         ⌜ (1 ≤ rounds) × (rounds ≤ 513) × Posed task R (now boxes) × Chained (task .m) (now tails) (now first) (now next) ⌝ }
     ensures { λ r.
-        let R = rows (now (tails .entry)) (now (heads .entry)) (now (weights .entry)) in
+        let R = rows (now (tails .entry)) (now (heads .entry)) (now (weights .entry)) (now (closures .entry)) in
         ⌜ r ≡ outcomeOf R (now (boxes .entry)) task ⌝ }
 {
     let mut tree = [FAR; 1024];
@@ -57,6 +57,7 @@ fn run_by(
             tails,
             heads,
             weights,
+            closures,
             first,
             next,
             boxes,
@@ -80,20 +81,31 @@ pub fn run(
     tails: &[u32],
     heads: &[u32],
     weights: &[u32],
+    closures: &[u8],
     toward: Toward,
     boxes: &[i32],
 ) -> Outcome
-    requires { ⌜ (1 ≤ s) × (s ≤ n) × Sound n m (rows (now tails) (now heads) (now weights)) × Room toward m (now boxes) ⌝ }
-    ensures { λ r. ⌜ r ≡ searchOf (rows (now (tails .entry)) (now (heads .entry)) (now (weights .entry))) (keeps toward (now (boxes .entry))) n m t s ⌝ }
+    requires { ⌜ (1 ≤ s) × (s ≤ n) × Sound n m (rows (now tails) (now heads) (now weights) (now closures)) × Room toward m (now boxes) ⌝ }
+    ensures { λ r. ⌜ r ≡ searchOf (rows (now (tails .entry)) (now (heads .entry)) (now (weights .entry)) (now (closures .entry))) (keeps toward (now (closures .entry)) (now (boxes .entry))) n m t s ⌝ }
 {
     let mut first = [m as u32; 512];
     let mut next = [0u32; 2048];
     link(m, tails, &mut first, &mut next);
     let task = Task { s, t, n, m, toward };
-    run_by(STEP, task, tails, heads, weights, &first, &next, boxes)
+    run_by(
+        STEP,
+        task,
+        tails,
+        heads,
+        weights,
+        closures,
+        &first,
+        &next,
+        boxes,
+    )
 }
 
-// The labels of all that can be reached from `s`, by any arcs, which are lent chained by their tails. With tails and heads
+// The labels of all that can be reached from `s`, by all open arcs, which are lent chained by their tails. With tails and heads
 // swapped: of all that leads to `s`. One step of n + 1 nodes is the whole run.
 pub fn label_all(
     s: usize,
@@ -102,11 +114,12 @@ pub fn label_all(
     tails: &[u32],
     heads: &[u32],
     weights: &[u32],
+    closures: &[u8],
     first: &[u32; 512],
     next: &[u32; 2048],
 ) -> Labels
-    requires { ⌜ (1 ≤ s) × (s ≤ n) × Sound n m (rows (now tails) (now heads) (now weights)) × Chained m (now tails) (now first) (now next) ⌝ }
-    ensures { λ r. ⌜ r ≡ labelsOf (rows (now (tails .entry)) (now (heads .entry)) (now (weights .entry))) (λ e. true) n m s ⌝ }
+    requires { ⌜ (1 ≤ s) × (s ≤ n) × Sound n m (rows (now tails) (now heads) (now weights) (now closures)) × Chained m (now tails) (now first) (now next) ⌝ }
+    ensures { λ r. ⌜ r ≡ labelsOf (rows (now (tails .entry)) (now (heads .entry)) (now (weights .entry)) (now (closures .entry))) (isOpen (now (closures .entry))) n m s ⌝ }
 {
     // of no arc is a box asked
     let boxes = [0i32; 1];
@@ -117,6 +130,16 @@ pub fn label_all(
         m,
         toward: Toward::Anywhere,
     };
-    let o = run_by(n + 1, task, tails, heads, weights, first, next, &boxes);
+    let o = run_by(
+        n + 1,
+        task,
+        tails,
+        heads,
+        weights,
+        closures,
+        first,
+        next,
+        &boxes,
+    );
     o.labels
 }

@@ -21,14 +21,15 @@ pub fn settle(
     tails: &[u32],
     heads: &[u32],
     weights: &[u32],
+    closures: &[u8],
     first: &[u32; 512],
     next: &[u32; 2048],
     boxes: &[i32],
 ) -> Stride
-    requires { let R = rows (now tails) (now heads) (now weights) in
+    requires { let R = rows (now tails) (now heads) (now weights) (now closures) in
         ⌜ Stands R (now boxes) task count labels (now tree) × Chained (task .m) (now tails) (now first) (now next) × (rounds ≤ 513) ⌝ }
     ensures { λ r.
-        let R = rows (now (tails .entry)) (now (heads .entry)) (now (weights .entry)) in
+        let R = rows (now (tails .entry)) (now (heads .entry)) (now (weights .entry)) (now (closures .entry)) in
         ⌜ Strode R (now (boxes .entry)) task (count + rounds) r (now (tree .exit)) ⌝ }
 {
     let mut length = labels.length;
@@ -72,6 +73,7 @@ pub fn settle(
             tails,
             heads,
             weights,
+            closures,
             first,
             next,
             boxes,

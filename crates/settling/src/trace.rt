@@ -32,23 +32,24 @@ fn arc_into(
     tails: &[u32],
     heads: &[u32],
     weights: &[u32],
+    closures: &[u8],
     first: &[u32; 512],
     next: &[u32; 2048],
     toward: Toward,
     boxes: &[i32],
 ) -> Into
-    requires { let R = rows (now tails) (now heads) (now weights) in
+    requires { let R = rows (now tails) (now heads) (now weights) (now closures) in
         ⌜ (1 ≤ v) × (v ≤ 512) × Sound 512 m R × Room toward m (now boxes) × Chained m (now heads) (now first) (now next) ⌝ }
     ensures { λ r.
-        let R = rows (now (tails .entry)) (now (heads .entry)) (now (weights .entry)) in
+        let R = rows (now (tails .entry)) (now (heads .entry)) (now (weights .entry)) (now (closures .entry)) in
         let L = labels (now (length .entry)) (now (arcs .entry)) [] in
-        ⌜ r ≡ intoOf R (keeps toward (now (boxes .entry))) L v m ⌝ }
+        ⌜ r ≡ intoOf R (keeps toward (now (closures .entry)) (now (boxes .entry))) L v m ⌝ }
 {
     let l = length[v - 1];
     let k = arcs[v - 1];
     let mut j = first[v - 1] as usize;
     while j < m {
-        if crate::passes(toward, boxes, j + 1) {
+        if crate::passes(toward, closures, boxes, j + 1) {
             let u = tails[j] as usize - 1;
             let from_l = length[u];
             let from_k = arcs[u];
@@ -69,12 +70,13 @@ pub fn trace(
     tails: &[u32],
     heads: &[u32],
     weights: &[u32],
+    closures: &[u8],
     toward: Toward,
     boxes: &[i32],
     route: &mut [u32],
 )
-    requires { ⌜ (1 ≤ t) × (t ≤ 512) × Sound 512 m (rows (now tails) (now heads) (now weights)) × Room toward m (now boxes) × (arcsOf labels t ≤ length (now route)) ⌝ }
-    ensures { λ _. ⌜ now (route .exit) ≡ traceOf (rows (now (tails .entry)) (now (heads .entry)) (now (weights .entry))) (keeps toward (now (boxes .entry))) m labels (arcsOf labels t) t (now (route .entry)) ⌝ }
+    requires { ⌜ (1 ≤ t) × (t ≤ 512) × Sound 512 m (rows (now tails) (now heads) (now weights) (now closures)) × Room toward m (now boxes) × (arcsOf labels t ≤ length (now route)) ⌝ }
+    ensures { λ _. ⌜ now (route .exit) ≡ traceOf (rows (now (tails .entry)) (now (heads .entry)) (now (weights .entry)) (now (closures .entry))) (keeps toward (now (closures .entry)) (now (boxes .entry))) m labels (arcsOf labels t) t (now (route .entry)) ⌝ }
 {
     let mut first = [m as u32; 512];
     let mut next = [0u32; 2048];
@@ -93,6 +95,7 @@ pub fn trace(
             tails,
             heads,
             weights,
+            closures,
             &first,
             &next,
             toward,

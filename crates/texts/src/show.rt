@@ -52,7 +52,8 @@ pub fn graph_of(bytes: &[u8]) {
     let mut tails = [0u32; 2048];
     let mut heads = [0u32; 2048];
     let mut weights = [0u32; 2048];
-    let reply = read_gr(bytes, &mut tails, &mut heads, &mut weights);
+    let mut closures = [0u8; 2048];
+    let reply = read_gr(bytes, &mut tails, &mut heads, &mut weights, &mut closures);
     match reply {
         GrReply::Read(n, m) => {
             text(b"ok ");

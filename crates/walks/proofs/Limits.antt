@@ -4,7 +4,7 @@ use mathlib.Core.Logic.{_⊎_, inl, inr, _≢_}
 use Prim.Native.Nat.{ℕ, _*_, _≤_, _<_}
 use native.Mathlib.Omega.{arith}
 use Rattle.walks.specs.Walk.{Net, only, Walk, empty, then}
-use Rattle.walks.specs.Rows.{Rows, network, SoundArc, Sound}
+use Rattle.walks.specs.Rows.{Rows, laid, network, SoundArc, Sound}
 use Rattle.walks.specs.Through.{InS}
 use Rattle.walks.specs.Count.{Count}
 use Rattle.walks.proofs.CountLaws.{count-more, count-most}
@@ -14,12 +14,16 @@ use Rattle.walks.specs.Settling.{Labelling, Progress, Next}
 pub record Within (N : Net) (n : ℕ) : Type 0 where
   pub arcs : (e : ℕ) → N .Arc e → SoundArc n (N .tail e) (N .head e) (N .weight e)
 
-pub sound-within : {n m : ℕ} {R : Rows} → Sound n m R → Within (network m R) n
-unfolding network
-sound-within s = record { arcs = λ e a. s .arcs e (a .0) (a .1) }
-
 pub only-within : {N : Net} {n : ℕ} {Keep : ℕ → Type 0} → Within N n → Within (only Keep N) n
 only-within w = record { arcs = λ e a. w .arcs e (a .0) }
+
+pub laid-within : {n m : ℕ} {R : Rows} → Sound n m R → Within (laid m R) n
+unfolding laid
+laid-within s = record { arcs = λ e a. s .arcs e (a .0) (a .1) }
+
+pub sound-within : {n m : ℕ} {R : Rows} → Sound n m R → Within (network m R) n
+unfolding network
+sound-within s = only-within (laid-within s)
 
 module _ {N : Net} {n : ℕ} (W : Within N n) where
   pub walk-node : {u v l k : ℕ} → 1 ≤ u → u ≤ n → Walk N u v l k → (1 ≤ v) × (v ≤ n)

@@ -1,11 +1,11 @@
 -- Walks taken apart and put together.
 use mathlib.Core.Path.{_≡_, refl, sym, subst}
 use mathlib.Core.List.{List, [], _∷_, _++_}
-use mathlib.Core.Bool.{true, Bool-set}
-use Prim.Native.Nat.{ℕ, _+_}
+use mathlib.Core.Bool.{Bool, true, Bool-set}
+use Prim.Native.Nat.{ℕ, zero, suc, _+_, _<_}
 use native.Mathlib.Nat.{add-zero, zero-add}
 use native.Mathlib.Omega.{arith}
-use lib.ListN.{length}
+use lib.ListN.{length, getD}
 use std.Equiv.{_≃_, isoToEquiv}
 use std.Univalence.{ua}
 use Rattle.walks.specs.Walk.{Net, reverse, only, kept, Walk, empty, then, WalkBy, by-none, by-arc}
@@ -68,10 +68,16 @@ module _ {N : Net} where
 pub by-first : {N : Net} {u t l e : ℕ} {more : List ℕ} → WalkBy N u t l (e ∷ more) → (r : ℕ) × (N .Arc e) × (l ≡ N .weight e + r) × WalkBy N (N .head e) t r more
 by-first (by-arc e a w) = (_, a, refl, w)
 
+-- each of them is an arc of the network
+pub by-uses : {N : Net} {u t l : ℕ} {arcs : List ℕ} → WalkBy N u t l arcs → (i : ℕ) → i < length arcs → N .Arc (getD arcs i 0)
+by-uses by-none i h = absurd (omega arith)
+by-uses (by-arc e a w) zero h = a
+by-uses (by-arc e a w) (suc i) h = by-uses w i (omega arith)
+
 -- ---- A network of which every arc is kept is the network itself
 
-same-arc : (A : Type 0) → (A × (true ≡ true)) ≃ A
-same-arc A = isoToEquiv (record { fun = λ x. x .0; inv = λ a. (a, refl); rinv = λ a. refl; linv = λ x i. (x .0, Bool-set true true refl (x .1) i) })
+same-arc : (A : Type 0) (b : Bool) → (A → b ≡ true) → (A × (b ≡ true)) ≃ A
+same-arc A b h = isoToEquiv (record { fun = λ x. x .0; inv = λ a. (a, h a); rinv = λ a. refl; linv = λ x i. (x .0, Bool-set b true (h (x .0)) (x .1) i) })
 
-pub kept-all : (N : Net) → kept (λ e. true) N ≡ N
-kept-all N = λ i. record { Arc = λ e. ua (same-arc (N .Arc e)) i; tail = N .tail; head = N .head; weight = N .weight }
+pub kept-each : (N : Net) (keep : ℕ → Bool) → ((e : ℕ) → N .Arc e → keep e ≡ true) → kept keep N ≡ N
+kept-each N keep h = λ i. record { Arc = λ e. ua (same-arc (N .Arc e) (keep e) (h e)) i; tail = N .tail; head = N .head; weight = N .weight }

@@ -6,7 +6,7 @@ use lib.Dec.{eqb}
 use Rattle.scan.specs.Ascii.{bytes}
 use Rattle.rules.specs.Paper.{refusal, numberOf, placeOf}
 use Rattle.rules.specs.declared.Refusal.{Refusal}
-use Rattle.rules.specs.declared.Refusal.the-variants.{TextTooLong, RowTooShort, NoForm, OutOfOrder, BeyondLimits, CountsDisagree, NodeAgain, BadArc, BadCoordinate, BadBox, NotInNetwork, NoWalk, BoxMisses}
+use Rattle.rules.specs.declared.Refusal.the-variants.{TextTooLong, RowTooShort, NoForm, OutOfOrder, BeyondLimits, CountsDisagree, NodeAgain, BadArc, BadCoordinate, BadBox, NotInNetwork, NoWalk, BoxMisses, BadClosure}
 use Rattle.scan.specs.Decimal.{decimal}
 use Rattle.pages.specs.Spaced.{countsText}
 
@@ -36,6 +36,7 @@ wordsText (BadBox arc) = bytes "the box of arc " ++ decimal arc ++ bytes " is no
 wordsText NotInNetwork = bytes "the source, target or arc is not in the network"
 wordsText (NoWalk settled) = bytes "no walk leads from the source to the target, settled " ++ decimal settled
 wordsText (BoxMisses arc node) = bytes "the box of arc " ++ decimal arc ++ bytes " misses node " ++ decimal node
+wordsText (BadClosure arc) = bytes "the closure of arc " ++ decimal arc ++ bytes " is neither 0 nor 1"
 
 -- what the console replies: the paper's number, the values, and the words in brackets
 unfoldable pub refusalLine : Refusal → List ℕ

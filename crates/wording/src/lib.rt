@@ -105,6 +105,15 @@ fn put_words(page: &mut [u8; PAGE], at: usize, why: Refusal) -> usize
             let a = put_between(page, at, b"the box of arc ", arc, b" misses node ");
             return put_count(page, a, node);
         }
+        Refusal::BadClosure { arc } => {
+            return put_between(
+                page,
+                at,
+                b"the closure of arc ",
+                arc,
+                b" is neither 0 nor 1",
+            );
+        }
     }
 }
 

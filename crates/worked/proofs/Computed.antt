@@ -1,6 +1,6 @@
 -- What search, build, check and update tell, computed: by the definitions that the code's steps meet.
 use Prim.Native.Nat.{ℕ, zero, suc, _+_}
-use mathlib.Core.Bool.{Bool, true, cond}
+use mathlib.Core.Bool.{Bool, cond}
 use mathlib.Core.List.{List, [], _∷_}
 use lib.IntN.{ℤ}
 use lib.ListN.{length}
@@ -9,11 +9,13 @@ use Rattle.rules.specs.Paper.{Reply, accepted, refusal}
 use Rattle.rules.specs.declared.Judged.{Judged}
 use Rattle.rules.specs.declared.Judged.the-variants.{Fine, Refused}
 use Rattle.rules.specs.declared.Refusal.the-variants.{NoWalk, BoxMisses}
-use Rattle.walks.specs.Rows.{Rows, at}
-use Rattle.geometry.specs.Box.{Box, holdsB}
+use Rattle.walks.specs.Rows.{Rows, at, isOpen}
+use Rattle.geometry.specs.Box.{Box}
 use Rattle.geometry.specs.Hull.{grown}
 use Rattle.geometry.specs.Row.{coordinate, boxOf, withBox}
 use Rattle.settling.specs.declared.Outcome.{Outcome}
+use Rattle.settling.specs.declared.Toward.the-variants.{Place}
+use Rattle.settling.specs.Toward.{keeps}
 use Rattle.settling.specs.Labels.{lengthOf, arcsOf}
 use Rattle.settling.specs.Run.{searchOf}
 use Rattle.settling.specs.Trace.{traceOf}
@@ -24,13 +26,13 @@ use Rattle.drawing.specs.Leads.{leadsTo}
 use Rattle.drawing.specs.Heads.{headBox}
 use Rattle.drawing.specs.Grown.{grownBy}
 use Rattle.drawing.specs.Missed.{missesNode}
-use Rattle.boxwork.specs.Says.{reweighted}
+use Rattle.boxwork.specs.Says.{changed}
 use Rattle.worked.specs.Table.{Told}
 
 -- a refusal leaves the rows as they were, else `told` is told
-unfoldable pub orTold : Judged → List ℕ → List ℤ → Told → Told
-orTold (Refused r) numbers boxes told = record { reply = refusal r; numbers = numbers; boxes = boxes }
-orTold Fine numbers boxes told = told
+unfoldable pub orTold : Judged → List ℕ → List ℕ → List ℤ → Told → Told
+orTold (Refused r) numbers closures boxes told = record { reply = refusal r; numbers = numbers; closures = closures; boxes = boxes }
+orTold Fine numbers closures boxes told = told
 
 -- ---- Searches
 
@@ -38,19 +40,20 @@ module _ (R : Rows) (keep : ℕ → Bool) (m t : ℕ) (row : List ℕ) where
   unfoldable pub answerOf : Outcome → Told
   answerOf o =
       cond (o .found)
-      (record { reply = accepted (lengthOf (o .labels) t ∷ arcsOf (o .labels) t ∷ o .count ∷ []); numbers = traceOf R keep m (o .labels) (arcsOf (o .labels) t) t row; boxes = [] })
-      (record { reply = refusal (NoWalk (o .count)); numbers = row; boxes = [] })
+      (record { reply = accepted (lengthOf (o .labels) t ∷ arcsOf (o .labels) t ∷ o .count ∷ []); numbers = traceOf R keep m (o .labels) (arcsOf (o .labels) t) t row; closures = []; boxes = [] })
+      (record { reply = refusal (NoWalk (o .count)); numbers = row; closures = []; boxes = [] })
 
 unfoldable pub searchTold : ℕ → ℕ → Rows → ℕ → ℕ → List ℕ → Told
-searchTold n m R s t row = orTold (searchJudged n m R s t (length row)) row [] (answerOf R (λ e. true) m t row (searchOf R (λ e. true) n m t s))
+searchTold n m R s t row = orTold (searchJudged n m R s t (length row)) row [] [] (answerOf R (isOpen (R .closures)) m t row (searchOf R (isOpen (R .closures)) n m t s))
 
--- the arcs whose box holds t
-abbrev pub heldBy : List ℤ → List ℤ → List ℤ → ℕ → ℕ → Bool
-heldBy x y boxes t e = holdsB (boxOf boxes e) (coordinate x t) (coordinate y t)
+-- the open arcs whose box holds t
+abbrev pub heldBy : List ℕ → List ℤ → List ℤ → List ℤ → ℕ → ℕ → Bool
+heldBy closures x y boxes t = keeps (Place (coordinate x t) (coordinate y t)) closures boxes
 
 unfoldable pub boxedTold : ℕ → ℕ → Rows → List ℤ → List ℤ → List ℤ → ℕ → ℕ → List ℕ → Told
 boxedTold n m R x y boxes s t row =
-    orTold (boxedJudged n m R x y boxes s t (length row)) row [] (answerOf R (heldBy x y boxes t) m t row (searchOf R (heldBy x y boxes t) n m t s))
+    let keep = heldBy (R .closures) x y boxes t in
+    orTold (boxedJudged n m R x y boxes s t (length row)) row [] [] (answerOf R keep m t row (searchOf R keep n m t s))
 
 -- ---- Build and update
 
@@ -72,12 +75,13 @@ module _ (n m : ℕ) (R : Rows) (x y : List ℤ) where
   mendedOf e old = grownOf e (grown old (coordinate x (at (R .heads) e)) (coordinate y (at (R .heads) e)))
 
   unfoldable pub buildTold : List ℤ → Told
-  buildTold boxes = orTold (buildJudged n m R x y boxes) [] boxes (record { reply = accepted []; numbers = []; boxes = drawnTo tightOf m boxes })
+  buildTold boxes = orTold (buildJudged n m R x y boxes) [] [] boxes (record { reply = accepted []; numbers = []; closures = []; boxes = drawnTo tightOf m boxes })
 
-unfoldable pub updateTold : ℕ → ℕ → Rows → List ℤ → List ℤ → List ℤ → ℕ → ℕ → Told
-updateTold n m R x y boxes arc weight =
-    let S = reweighted R arc weight in
-    orTold (updateJudged n m R x y boxes arc weight) (R .weights) boxes (record { reply = accepted []; numbers = S .weights; boxes = drawnTo (mendedOf n m S x y) m boxes })
+unfoldable pub updateTold : ℕ → ℕ → Rows → List ℤ → List ℤ → List ℤ → ℕ → ℕ → ℕ → Told
+updateTold n m R x y boxes arc weight closure =
+    let S = changed R arc weight closure in
+    orTold (updateJudged n m R x y boxes arc weight closure) (R .weights) (R .closures) boxes
+    (record { reply = accepted []; numbers = S .weights; closures = S .closures; boxes = drawnTo (mendedOf n m S x y) m boxes })
 
 -- ---- Check
 
@@ -102,7 +106,7 @@ missReply (First e t) = refusal (BoxMisses e t)
 
 unfoldable pub checkTold : ℕ → ℕ → Rows → List ℤ → List ℤ → List ℤ → Told
 checkTold n m R x y boxes =
-    orTold (checkJudged n m R x y boxes) [] [] (record { reply = missReply (lowestArc (missesNode R n m boxes x y) n m); numbers = []; boxes = [] })
+    orTold (checkJudged n m R x y boxes) [] [] [] (record { reply = missReply (lowestArc (missesNode R n m boxes x y) n m); numbers = []; closures = []; boxes = [] })
 
 -- ---- S(e)
 

@@ -8,6 +8,7 @@ use lib.IntN.{ℤ, pos, negsuc, natAbs, pos-ne-negsuc}
 use Rattle.rules.specs.Paper.{accepted}
 use Rattle.geometry.specs.Box.{Box}
 use Rattle.geometry.specs.Row.{boxOf}
+use Rattle.walks.specs.Rows.{Rows}
 use Rattle.boxwork.specs.Says.{BuildSays, UpdateSays}
 use Rattle.boxwork.proofs.TightLaws.{tight-unique}
 use Rattle.boxwork.proofs.SaysLaws.{update-unique}
@@ -30,8 +31,8 @@ line-of (suc k) (line r more) = line-of k more
 
 -- An update that mends only the changed arc's box, whatever it makes of that one: when the triangle's arc 3 grows heavier, arc 1's
 -- box must grow.
-pub not-only-its-own : {weights : List ℕ} {after : List ℤ}
-    → UpdateSays (triangle .nodes) (triangle .arcs) (triangle .rows) (triangle .x) (triangle .y) triangleBoxes 3 5 (accepted []) weights after
+pub not-only-its-own : {rows : Rows} {after : List ℤ}
+    → UpdateSays (triangle .nodes) (triangle .arcs) (triangle .rows) (triangle .x) (triangle .y) triangleBoxes 3 5 0 (accepted []) rows after
     → ((e : ℕ) → e ≢ 3 → boxOf after e ≡ boxOf triangleBoxes e) → ⊥
 unfolding table triangleBoxes mendedBoxes
 not-only-its-own u others =

@@ -18,12 +18,12 @@ use Rattle.settling.specs.Nearest.{better, leaderOf, nearestOf}
 use Rattle.settling.specs.Run.{afterPick, runOf}
 use Rattle.settling.specs.Trace.{fits, firstOf, arcFits, intoOf, afterInto, traceOf}
 use Rattle.settling.specs.LengthsTo.{onShortest}
-use Rattle.judging.specs.Order.{networkJudged, placedJudged, shapedJudged, searchJudged, boxedJudged, buildJudged, checkJudged, updateJudged}
+use Rattle.judging.specs.Order.{arcsJudged, networkJudged, searchedBy, placedBy, shapedBy, searchJudged, boxedJudged, buildJudged, checkJudged, updateJudged}
 use Rattle.judging.proofs.StageLaws.{network-fine}
 use Rattle.drawing.specs.Leads.{leadsAt, lengthsTo}
 use Rattle.drawing.specs.Grown.{grownIf, grownBy}
 use Rattle.drawing.specs.Missed.{missesNode}
-use Rattle.worked.specs.Plans.{hall, reweightedHall, oneWay, zeros, behind, west, triangle, detour, triangleBoxes, mendedBoxes, hallBoxes, raisedBoxes, fullBoxes, treeBoxes, route}
+use Rattle.worked.specs.Plans.{hall, reweightedHall, closedHall, shutHall, oneWay, zeros, behind, west, triangle, detour, closedTriangle, bridge, liftedBridge, hallBoxes, closedBoxes, raisedBoxes, fullBoxes, treeBoxes, triangleBoxes, mendedBoxes, route}
 use Rattle.worked.proofs.Computed.{orTold, answerOf, searchTold, boxedTold, drawnTo, buildTold, updateTold, lowestNode, orArc, lowestArc, checkTold, membersFrom, membersOf}
 use Rattle.worked.proofs.ComputedLaws.{search-told, boxed-told, build-told, check-told, update-told}
 use Rattle.worked.proofs.MembersLaws.{members-are}
@@ -35,14 +35,14 @@ toldOf (search p s t) = searchTold (p .nodes) (p .arcs) (p .rows) s t route
 toldOf (boxed p boxes s t) = boxedTold (p .nodes) (p .arcs) (p .rows) (p .x) (p .y) boxes s t route
 toldOf (build p before) = buildTold (p .nodes) (p .arcs) (p .rows) (p .x) (p .y) before
 toldOf (check p boxes) = checkTold (p .nodes) (p .arcs) (p .rows) (p .x) (p .y) boxes
-toldOf (update p boxes arc weight) = updateTold (p .nodes) (p .arcs) (p .rows) (p .x) (p .y) boxes arc weight
+toldOf (update p boxes arc weight closure) = updateTold (p .nodes) (p .arcs) (p .rows) (p .x) (p .y) boxes arc weight closure
 
 says : (c : Call) → Says c (toldOf c)
 says (search p s t) = search-told (p .nodes) (p .arcs) (p .rows) s t route
 says (boxed p boxes s t) = boxed-told (p .nodes) (p .arcs) (p .rows) s t route (p .x) (p .y) boxes
 says (build p before) = build-told (p .nodes) (p .arcs) (p .rows) (p .x) (p .y) before
 says (check p boxes) = check-told (p .nodes) (p .arcs) (p .rows) (p .x) (p .y) boxes
-says (update p boxes arc weight) = update-told (p .nodes) (p .arcs) (p .rows) (p .x) (p .y) boxes arc weight
+says (update p boxes arc weight closure) = update-told (p .nodes) (p .arcs) (p .rows) (p .x) (p .y) boxes arc weight closure
 
 unfoldable pub passes : Case → Bool
 passes (set p e nodes) =
@@ -76,9 +76,10 @@ each-right (c ∷ cs) h = let p = and-true (passes c) (allPass cs) h in line (pa
 
 pub table-right : TableRight
 unfolding
-    table allPass passes hall reweightedHall oneWay zeros behind west hallBoxes raisedBoxes fullBoxes treeBoxes triangle detour triangleBoxes mendedBoxes
+    table allPass passes hall reweightedHall closedHall shutHall oneWay zeros behind west triangle detour closedTriangle bridge liftedBridge
+    hallBoxes closedBoxes raisedBoxes fullBoxes treeBoxes triangleBoxes mendedBoxes
     orTold answerOf searchTold boxedTold drawnTo buildTold updateTold lowestNode orArc lowestArc checkTold membersFrom
-    networkJudged placedJudged shapedJudged searchJudged boxedJudged buildJudged checkJudged updateJudged each smaller larger
+    arcsJudged networkJudged searchedBy placedBy shapedBy searchJudged boxedJudged buildJudged checkJudged updateJudged each smaller larger
     before startOf labelled offered marked arcStep relaxed settleOf better leaderOf nearestOf afterPick runOf
     fits firstOf arcFits intoOf afterInto traceOf onShortest leadsAt lengthsTo grownIf grownBy missesNode
 table-right = each-right table refl

@@ -1,11 +1,11 @@
--- The plans of 01: the hall, and its other small networks.
+-- The plans of 01, every track open: the hall, and its other small networks; and for request b some with tracks closed.
 use Prim.Native.Nat.{ℕ, zero, suc}
 use mathlib.Core.List.{List, [], _∷_}
 use lib.IntN.{ℤ, pos, negsuc}
 use lib.ListN.{set, replicate}
-use Rattle.rules.specs.Limits.{leastCoordinate, mostCoordinate}
-use Rattle.walks.specs.Rows.{Rows}
-use Rattle.boxwork.specs.Says.{reweighted}
+use Rattle.rules.specs.Limits.{mostWeight, leastCoordinate, mostCoordinate}
+use Rattle.walks.specs.Rows.{Rows, rows}
+use Rattle.boxwork.specs.Says.{changed}
 
 pub record Plan : Type 0 where
   pub nodes : ℕ
@@ -14,30 +14,42 @@ pub record Plan : Type 0 where
   pub x : List ℤ
   pub y : List ℤ
 
+-- the plan with other arc rows
+abbrev with : Plan → Rows → Plan
+with p r = record { nodes = p .nodes; arcs = p .arcs; rows = r; x = p .x; y = p .y }
+
 -- net.gr and net.co
 unfoldable pub hall : Plan
 hall = record {
   nodes = 4;
   arcs = 6;
-  rows = record { tails = 1 ∷ 2 ∷ 1 ∷ 3 ∷ 1 ∷ 4 ∷ []; heads = 2 ∷ 3 ∷ 3 ∷ 4 ∷ 4 ∷ 1 ∷ []; weights = 3 ∷ 2 ∷ 5 ∷ 1 ∷ 9 ∷ 4 ∷ [] };
+  rows = record { tails = 1 ∷ 2 ∷ 1 ∷ 3 ∷ 1 ∷ 4 ∷ []; heads = 2 ∷ 3 ∷ 3 ∷ 4 ∷ 4 ∷ 1 ∷ []; weights = 3 ∷ 2 ∷ 5 ∷ 1 ∷ 9 ∷ 4 ∷ []; closures = replicate 6 0 };
   x = pos 0 ∷ pos 10 ∷ pos 10 ∷ negsuc 4 ∷ [];
   y = pos 0 ∷ pos 0 ∷ pos 5 ∷ pos 20 ∷ [];
 }
 
 -- the hall with arc 5 reweighted to 6
 unfoldable pub reweightedHall : Plan
-reweightedHall = record { nodes = hall .nodes; arcs = hall .arcs; rows = reweighted (hall .rows) 5 6; x = hall .x; y = hall .y }
+reweightedHall = with hall (changed (hall .rows) 5 6 0)
+
+-- the hall with arc 3 closed
+unfoldable pub closedHall : Plan
+closedHall = with hall (changed (hall .rows) 3 5 1)
+
+-- the hall with arcs 1, 3 and 5 closed: every track out of node 1
+unfoldable pub shutHall : Plan
+shutHall = with hall (rows (hall .rows .tails) (hall .rows .heads) (hall .rows .weights) (1 ∷ 0 ∷ 1 ∷ 0 ∷ 1 ∷ 0 ∷ []))
 
 -- two nodes, only arc 2 to 1
 unfoldable pub oneWay : Plan
-oneWay = record { nodes = 2; arcs = 1; rows = record { tails = 2 ∷ []; heads = 1 ∷ []; weights = 7 ∷ [] }; x = pos 0 ∷ pos 1 ∷ []; y = pos 0 ∷ pos 1 ∷ [] }
+oneWay = record { nodes = 2; arcs = 1; rows = record { tails = 2 ∷ []; heads = 1 ∷ []; weights = 7 ∷ []; closures = 0 ∷ [] }; x = pos 0 ∷ pos 1 ∷ []; y = pos 0 ∷ pos 1 ∷ [] }
 
 -- arcs 1-2 and 2-1 of weight 0, 1-3 and 2-3 of weight 5
 unfoldable pub zeros : Plan
 zeros = record {
   nodes = 3;
   arcs = 4;
-  rows = record { tails = 1 ∷ 2 ∷ 1 ∷ 2 ∷ []; heads = 2 ∷ 1 ∷ 3 ∷ 3 ∷ []; weights = 0 ∷ 0 ∷ 5 ∷ 5 ∷ [] };
+  rows = record { tails = 1 ∷ 2 ∷ 1 ∷ 2 ∷ []; heads = 2 ∷ 1 ∷ 3 ∷ 3 ∷ []; weights = 0 ∷ 0 ∷ 5 ∷ 5 ∷ []; closures = replicate 4 0 };
   x = pos 0 ∷ pos 10 ∷ pos 20 ∷ [];
   y = pos 0 ∷ pos 0 ∷ pos 0 ∷ [];
 }
@@ -47,7 +59,7 @@ unfoldable pub behind : Plan
 behind = record {
   nodes = 4;
   arcs = 5;
-  rows = record { tails = 1 ∷ 2 ∷ 1 ∷ 2 ∷ 3 ∷ []; heads = 2 ∷ 1 ∷ 3 ∷ 3 ∷ 4 ∷ []; weights = 0 ∷ 0 ∷ 5 ∷ 5 ∷ 1 ∷ [] };
+  rows = record { tails = 1 ∷ 2 ∷ 1 ∷ 2 ∷ 3 ∷ []; heads = 2 ∷ 1 ∷ 3 ∷ 3 ∷ 4 ∷ []; weights = 0 ∷ 0 ∷ 5 ∷ 5 ∷ 1 ∷ []; closures = replicate 5 0 };
   x = pos 10 ∷ pos 12 ∷ pos 0 ∷ pos 30 ∷ [];
   y = pos 0 ∷ pos 1 ∷ pos 0 ∷ pos 5 ∷ [];
 }
@@ -57,7 +69,7 @@ unfoldable pub west : Plan
 west = record {
   nodes = 2;
   arcs = 1;
-  rows = record { tails = 1 ∷ []; heads = 2 ∷ []; weights = 1 ∷ [] };
+  rows = record { tails = 1 ∷ []; heads = 2 ∷ []; weights = 1 ∷ []; closures = 0 ∷ [] };
   x = negsuc 9 ∷ negsuc 19 ∷ [];
   y = negsuc 9 ∷ negsuc 4 ∷ [];
 }
@@ -67,14 +79,31 @@ unfoldable pub triangle : Plan
 triangle = record {
   nodes = 3;
   arcs = 3;
-  rows = record { tails = 1 ∷ 2 ∷ 1 ∷ []; heads = 2 ∷ 3 ∷ 3 ∷ []; weights = 1 ∷ 1 ∷ 1 ∷ [] };
+  rows = record { tails = 1 ∷ 2 ∷ 1 ∷ []; heads = 2 ∷ 3 ∷ 3 ∷ []; weights = 1 ∷ 1 ∷ 1 ∷ []; closures = replicate 3 0 };
   x = pos 0 ∷ pos 10 ∷ pos 10 ∷ [];
   y = pos 0 ∷ pos 0 ∷ pos 10 ∷ [];
 }
 
 -- its arc 3 reweighted to 5: now 1 to 3 goes through 2
 unfoldable pub detour : Plan
-detour = record { nodes = triangle .nodes; arcs = triangle .arcs; rows = reweighted (triangle .rows) 3 5; x = triangle .x; y = triangle .y }
+detour = with triangle (changed (triangle .rows) 3 5 0)
+
+-- its arc 3 closed: again 1 to 3 goes through 2
+unfoldable pub closedTriangle : Plan
+closedTriangle = with triangle (changed (triangle .rows) 3 1 1)
+
+-- two nodes and a bridge from 1 to 2, of the most weight; and that bridge lifted
+unfoldable pub bridge : Plan
+bridge = record {
+  nodes = 2;
+  arcs = 1;
+  rows = record { tails = 1 ∷ []; heads = 2 ∷ []; weights = mostWeight ∷ []; closures = 0 ∷ [] };
+  x = pos 0 ∷ pos 1 ∷ [];
+  y = pos 0 ∷ pos 1 ∷ [];
+}
+
+unfoldable pub liftedBridge : Plan
+liftedBridge = with bridge (changed (bridge .rows) 1 mostWeight 1)
 
 -- ---- Rows of boxes
 
@@ -96,6 +125,10 @@ hallBoxes =
 unfoldable pub raisedBoxes : List ℤ
 raisedBoxes = set hallBoxes 10 (pos 6)
 
+-- arc 3's left and high drawn in, so that its box is its head
+unfoldable pub closedBoxes : List ℤ
+closedBoxes = set (set hallBoxes 8 (pos 10)) 11 (pos 5)
+
 -- so many boxes at the full limits
 unfoldable pub fullBoxes : ℕ → List ℤ
 fullBoxes zero = []
@@ -110,7 +143,7 @@ treeBoxes =
     (box (pos 0) (pos 0) (pos 0) (pos 0)
     (box (pos 30) (pos 30) (pos 5) (pos 5) []))))
 
--- the triangle's tight boxes, and those that an update of arc 3 to 5 leaves
+-- the triangle's tight boxes, and those that an update leaves which makes arc 3 heavier or closes it
 unfoldable pub triangleBoxes : List ℤ
 triangleBoxes = box (pos 10) (pos 10) (pos 0) (pos 0) (box (pos 10) (pos 10) (pos 10) (pos 10) (box (pos 10) (pos 10) (pos 10) (pos 10) []))
 

@@ -1,24 +1,27 @@
--- The starred lines of 01, and the errors that learners bring: one table under one statement. The statement is made of the functions'
--- own relations, so that each line says what a function replies and writes. `table-right` in proofs/TableRight.antt proves it.
+-- The starred lines of 01, the errors that learners bring, and the closed tracks of request b: one table under one statement. The
+-- statement is made of the functions' own relations, so that each line says what a function replies and writes. `table-right` in
+-- proofs/TableRight.antt proves it.
 use Prim.Native.Nat.{ℕ}
 use mathlib.Core.Path.{_≡_}
 use mathlib.Core.Logic.{_⊎_, _↔_}
 use mathlib.Core.List.{List, [], _∷_}
 use lib.IntN.{ℤ, pos, negsuc}
 use lib.ListN.{replicate}
+use Rattle.rules.specs.Limits.{mostWeight}
 use Rattle.rules.specs.Paper.{Reply, accepted, refusal}
 use Rattle.rules.specs.declared.Refusal.the-variants.{NoWalk, BoxMisses}
 use Rattle.walks.specs.Walk.{WalkBy}
-use Rattle.walks.specs.Rows.{network}
+use Rattle.walks.specs.Rows.{rows, network}
 use Rattle.walks.specs.Through.{InS}
 use Rattle.search.specs.Says.{SearchSays, BoxedSays}
 use Rattle.boxwork.specs.Says.{BuildSays, CheckSays, UpdateSays}
-use Rattle.worked.specs.Plans.{Plan, hall, reweightedHall, oneWay, zeros, behind, west, triangle, detour, triangleBoxes, mendedBoxes, hallBoxes, raisedBoxes, fullBoxes, treeBoxes, blank, route}
+use Rattle.worked.specs.Plans.{Plan, hall, reweightedHall, closedHall, shutHall, oneWay, zeros, behind, west, triangle, detour, closedTriangle, bridge, liftedBridge, hallBoxes, closedBoxes, raisedBoxes, fullBoxes, treeBoxes, triangleBoxes, mendedBoxes, blank, route}
 
--- a reply, with the route or weight row and the box row afterwards
+-- a reply, with the route or weight row, the row of closures and the box row afterwards, where the call may write them
 pub record Told : Type 0 where
   pub reply : Reply
   pub numbers : List ℕ
+  pub closures : List ℕ
   pub boxes : List ℤ
 
 -- A call of one of the functions; searches are lent `route`
@@ -27,7 +30,7 @@ pub data Call : Type 0 where
   boxed : (plan : Plan) (boxes : List ℤ) (source target : ℕ) → Call
   build : (plan : Plan) (before : List ℤ) → Call
   check : (plan : Plan) (boxes : List ℤ) → Call
-  update : (plan : Plan) (boxes : List ℤ) (arc weight : ℕ) → Call
+  update : (plan : Plan) (boxes : List ℤ) (arc weight closure : ℕ) → Call
 
 -- the call replies and writes this
 abbrev pub Says : Call → Told → Type 0
@@ -35,7 +38,8 @@ Says (search p s t) z = SearchSays (p .nodes) (p .arcs) (p .rows) s t route (z .
 Says (boxed p boxes s t) z = BoxedSays (p .nodes) (p .arcs) (p .rows) (p .x) (p .y) boxes s t route (z .reply) (z .numbers)
 Says (build p before) z = BuildSays (p .nodes) (p .arcs) (p .rows) (p .x) (p .y) before (z .reply) (z .boxes)
 Says (check p boxes) z = CheckSays (p .nodes) (p .arcs) (p .rows) (p .x) (p .y) boxes (z .reply)
-Says (update p boxes arc weight) z = UpdateSays (p .nodes) (p .arcs) (p .rows) (p .x) (p .y) boxes arc weight (z .reply) (z .numbers) (z .boxes)
+Says (update p boxes arc weight closure) z =
+    UpdateSays (p .nodes) (p .arcs) (p .rows) (p .x) (p .y) boxes arc weight closure (z .reply) (rows (p .rows .tails) (p .rows .heads) (z .numbers) (z .closures)) (z .boxes)
 
 -- v is one of a list's numbers
 abbrev pub Among : ℕ → List ℕ → Type 0
@@ -65,19 +69,22 @@ pub data Each (P : Case → Type 0) : List Case → Type 0 where
 -- ---- What is told
 
 abbrev found : ℕ → ℕ → ℕ → List ℕ → Told
-found length arcs settled row = record { reply = accepted (length ∷ arcs ∷ settled ∷ []); numbers = row; boxes = [] }
+found length arcs settled row = record { reply = accepted (length ∷ arcs ∷ settled ∷ []); numbers = row; closures = []; boxes = [] }
 
 abbrev noWalk : ℕ → List ℕ → Told
-noWalk settled row = record { reply = refusal (NoWalk settled); numbers = row; boxes = [] }
+noWalk settled row = record { reply = refusal (NoWalk settled); numbers = row; closures = []; boxes = [] }
 
 abbrev yes : Told
-yes = record { reply = accepted []; numbers = []; boxes = [] }
+yes = record { reply = accepted []; numbers = []; closures = []; boxes = [] }
 
 abbrev misses : ℕ → ℕ → Told
-misses arc node = record { reply = refusal (BoxMisses arc node); numbers = []; boxes = [] }
+misses arc node = record { reply = refusal (BoxMisses arc node); numbers = []; closures = []; boxes = [] }
 
-abbrev writes : List ℕ → List ℤ → Told
-writes numbers boxes = record { reply = accepted []; numbers = numbers; boxes = boxes }
+abbrev draws : List ℤ → Told
+draws boxes = record { reply = accepted []; numbers = []; closures = []; boxes = boxes }
+
+abbrev writes : List ℕ → List ℕ → List ℤ → Told
+writes weights closures boxes = record { reply = accepted []; numbers = weights; closures = closures; boxes = boxes }
 
 -- ---- The table
 
@@ -86,7 +93,7 @@ table =
     -- S(1) is {2,3,4}. S(5) is empty, so its box is its head.
     set hall 1 (2 ∷ 3 ∷ 4 ∷ [])
     ∷ set hall 5 []
-    ∷ call (build hall blank) (writes [] hallBoxes)
+    ∷ call (build hall blank) (draws hallBoxes)
     -- 1 to 4: length 6, arcs 3 and 4; the walk by arcs 1, 2 and 4 ties in length with more arcs. Settled 4 with the tight boxes.
     ∷ call (boxed hall hallBoxes 1 4) (found 6 2 4 (3 ∷ 4 ∷ 0 ∷ 0 ∷ []))
     ∷ call (search hall 1 4) (found 6 2 4 (3 ∷ 4 ∷ 0 ∷ 0 ∷ []))
@@ -103,27 +110,46 @@ table =
     ∷ call (check hall raisedBoxes) (misses 3 3)
     ∷ call (check hall (fullBoxes 6)) yes
     -- Arc 5 reweighted to 6: 1 to 4 goes by arc 5 alone.
-    ∷ call (update hall hallBoxes 5 6) (writes (3 ∷ 2 ∷ 5 ∷ 1 ∷ 6 ∷ 4 ∷ []) hallBoxes)
+    ∷ call (update hall hallBoxes 5 6 0) (writes (3 ∷ 2 ∷ 5 ∷ 1 ∷ 6 ∷ 4 ∷ []) (0 ∷ 0 ∷ 0 ∷ 0 ∷ 0 ∷ 0 ∷ []) hallBoxes)
     ∷ call (search reweightedHall 1 4) (found 6 1 4 (5 ∷ 0 ∷ 0 ∷ 0 ∷ []))
     -- Two nodes, only arc 2 to 1: from 1 to 2 is 12, settled 1.
     ∷ call (search oneWay 1 2) (noWalk 1 route)
     -- Arcs 1-2 and 2-1 of weight 0, 1-3 and 2-3 of weight 5: from 1 to 3 is length 5 by arc 3.
     ∷ call (search zeros 1 3) (found 5 1 3 (3 ∷ 0 ∷ 0 ∷ 0 ∷ []))
     -- An update mends the boxes of other arcs: where arc 3 grows heavier, arc 1 comes to lead to node 3.
-    ∷ call (build triangle (replicate 12 (pos 7))) (writes [] triangleBoxes)
+    ∷ call (build triangle (replicate 12 (pos 7))) (draws triangleBoxes)
     ∷ call (check detour triangleBoxes) (misses 1 3)
-    ∷ call (update triangle triangleBoxes 3 5) (writes (1 ∷ 1 ∷ 5 ∷ []) mendedBoxes)
+    ∷ call (update triangle triangleBoxes 3 5 0) (writes (1 ∷ 1 ∷ 5 ∷ []) (0 ∷ 0 ∷ 0 ∷ []) mendedBoxes)
     ∷ call (check detour mendedBoxes) yes
     -- Learners' error 1, one tree per node: those boxes lose both ways to 4, and check names arc 3 and node 4.
     ∷ call (search behind 1 4) (found 6 2 4 (3 ∷ 5 ∷ 0 ∷ 0 ∷ []))
     ∷ call (boxed behind treeBoxes 1 4) (noWalk 2 route)
     ∷ call (check behind treeBoxes) (misses 3 4)
     -- Error 2, a box started at 0, 0: of a plan west of the origin, the box does not reach there.
-    ∷ call (build west (pos 0 ∷ pos 0 ∷ pos 0 ∷ pos 0 ∷ [])) (writes [] (negsuc 19 ∷ negsuc 19 ∷ negsuc 4 ∷ negsuc 4 ∷ []))
+    ∷ call (build west (pos 0 ∷ pos 0 ∷ pos 0 ∷ pos 0 ∷ [])) (draws (negsuc 19 ∷ negsuc 19 ∷ negsuc 4 ∷ negsuc 4 ∷ []))
     -- Error 3: arc 5 is a walk to its head, which is not in S(5), as said above.
     ∷ walk hall 1 4 9 (5 ∷ [])
     -- Error 4, ties by order of discovery: the route is the same by other boxes that check accepts.
     ∷ call (boxed hall (fullBoxes 6) 1 4) (found 6 2 4 (3 ∷ 4 ∷ 0 ∷ 0 ∷ []))
+    -- Request b. With arc 3 closed S(3) is empty, so its box is its head; 1 to 4 goes by arcs 1, 2 and 4.
+    ∷ set closedHall 3 []
+    ∷ call (build closedHall blank) (draws closedBoxes)
+    ∷ call (search closedHall 1 4) (found 6 3 4 (1 ∷ 2 ∷ 4 ∷ 0 ∷ []))
+    ∷ call (boxed closedHall closedBoxes 1 4) (found 6 3 4 (1 ∷ 2 ∷ 4 ∷ 0 ∷ []))
+    -- With arcs 1, 3 and 5 closed 1 to 4 is 12, settled 1.
+    ∷ call (search shutHall 1 4) (noWalk 1 route)
+    -- An update closes arc 3 and keeps its weight. It enlarges no box: the walk by arcs 1, 2 and 4 tied before.
+    ∷ call (update hall hallBoxes 3 5 1) (writes (3 ∷ 2 ∷ 5 ∷ 1 ∷ 9 ∷ 4 ∷ []) (0 ∷ 0 ∷ 1 ∷ 0 ∷ 0 ∷ 0 ∷ []) hallBoxes)
+    ∷ call (check closedHall hallBoxes) yes
+    -- Boxes that were right before a track was closed: with the triangle's arc 3 closed arc 1 comes to lead to node 3, and check gives
+    -- 13, arc 1, node 3. An update mends them.
+    ∷ call (check triangle triangleBoxes) yes
+    ∷ call (check closedTriangle triangleBoxes) (misses 1 3)
+    ∷ call (update triangle triangleBoxes 3 1 1) (writes (1 ∷ 1 ∷ 1 ∷ []) (0 ∷ 0 ∷ 1 ∷ []) mendedBoxes)
+    ∷ call (check closedTriangle mendedBoxes) yes
+    -- Weight 1,000,000 is an ordinary time, and a closed track not a slow one: over the lifted bridge 1 to 2 is 12, settled 1.
+    ∷ call (search bridge 1 2) (found mostWeight 1 2 (1 ∷ 0 ∷ 0 ∷ 0 ∷ []))
+    ∷ call (search liftedBridge 1 2) (noWalk 1 route)
     ∷ []
 
 -- THE STATEMENT of the table: every line is right

@@ -30,7 +30,7 @@ use Rattle.dimacs.proofs.Counting.{clash}
 use Rattle.dimacs.proofs.Accepted.{gr-count, not-accepted, front, gr-read as gr-accepted}
 use Rattle.dimacs.proofs.Replies.{gr-text}
 use Rattle.dimacs.proofs.Unique.{gr-reply-injective}
-use Rattle.walks.specs.Rows.{Rows, rows, at}
+use Rattle.walks.specs.Rows.{Rows, openRows, at}
 use Rattle.writing.specs.Text.{arcText, grText}
 use Rattle.scan.specs.Line.{isComment}
 use Rattle.writing.specs.Plain.{PlainGr}
@@ -82,7 +82,7 @@ arc-within n u v w a b c d e = rw (le-leb 1 u a, le-leb u n b, le-leb 1 v c, le-
 
 module _ (n m : ℕ) (tails heads weights : List ℕ) (g : GrLimits n m tails heads weights) where
   abbrev R : Rows
-  R = rows tails heads weights
+  R = openRows tails heads weights
 
   arc-entry : (i : ℕ) → i < m → Entry (grRules n) i (arcNumbers R (i + 1))
   unfolding grRules
@@ -105,26 +105,27 @@ module _ (n m : ℕ) (tails heads weights : List ℕ) (g : GrLimits n m tails he
       ∙ read-all Graph (naturals n m 0) (listed (arcText R) m) (listed (arcNumbers R) m) (same ∙ sym also) (listed-long (arcNumbers R) m) (g .arcs)
       (λ i h. let k : i < m = omega (arith, listed-long (arcNumbers R) m) in rw (listed-at (arcNumbers R) m i none k) (arc-entry i k)))
 
-module _ (n m : ℕ) (tails heads weights : List ℕ) (g : GrLimits n m tails heads weights) (a b c : List ℕ) (la : 2048 ≤ length a) (lb : 2048 ≤ length b) (lc : 2048 ≤ length c) where
+module _ (n m : ℕ) (tails heads weights : List ℕ) (g : GrLimits n m tails heads weights) (a b c d : List ℕ) (la : 2048 ≤ length a) (lb : 2048 ≤ length b) (lc : 2048 ≤ length c)
+    (ld : 2048 ≤ length d) where
   abbrev back : List Numbers
-  back = listed (arcNumbers (rows tails heads weights)) m
+  back = listed (arcNumbers (openRows tails heads weights)) m
 
-  gr-back : readGr (grText n m (rows tails heads weights)) a b c ≡ read (naturals n m 0) back
+  gr-back : readGr (grText n m (openRows tails heads weights)) a b c d ≡ read (naturals n m 0) back
   gr-back =
       let most = gr-most n m tails heads weights g in
-      gr-text (grText n m (rows tails heads weights)) a b c (omega arith) (rw (le-leb 2048 (length a) la, le-leb 2048 (length b) lb, le-leb 2048 (length c) lc))
+      gr-text (grText n m (openRows tails heads weights)) a b c d (omega arith) (rw (le-leb 2048 (length a) la, le-leb 2048 (length b) lb, le-leb 2048 (length c) lc, le-leb 2048 (length d) ld))
       ∙ gr-text-read n m tails heads weights g
 
-  back-at : (f : Numbers → ℕ) (old l : List ℕ) (i : ℕ) → i < m → f (arcNumbers (rows tails heads weights) (i + 1)) ≡ getD l i 0 → getD (map f back ++ drop (length back) old) i 0 ≡ getD l i 0
+  back-at : (f : Numbers → ℕ) (old l : List ℕ) (i : ℕ) → i < m → f (arcNumbers (openRows tails heads weights) (i + 1)) ≡ getD l i 0 → getD (map f back ++ drop (length back) old) i 0 ≡ getD l i 0
   back-at f old l i h e =
-      front f back (drop (length back) old) i 0 (omega (arith, listed-long (arcNumbers (rows tails heads weights)) m))
-      ∙ (ap f (listed-at (arcNumbers (rows tails heads weights)) m i none h) ∙ e)
+      front f back (drop (length back) old) i 0 (omega (arith, listed-long (arcNumbers (openRows tails heads weights)) m))
+      ∙ (ap f (listed-at (arcNumbers (openRows tails heads weights)) m i none h) ∙ e)
 
   -- whoever reads the text that was written gets n, m and the same arcs, whatever rows are lent
-  pub read-written-gr : (r : GrReply) (a′ b′ c′ : List ℕ) → GrPromise (grText n m (rows tails heads weights)) a b c r a′ b′ c′
+  pub read-written-gr : (r : GrReply) (a′ b′ c′ d′ : List ℕ) → GrPromise (grText n m (openRows tails heads weights)) a b c d r a′ b′ c′ d′
       → (r ≡ GrRead n m) × ((i : ℕ) → i < m → (getD a′ i 0 ≡ getD tails i 0) × (getD b′ i 0 ≡ getD heads i 0) × (getD c′ i 0 ≡ getD weights i 0))
   unfolding grSays row
-  read-written-gr r a′ b′ c′ p =
+  read-written-gr r a′ b′ c′ d′ p =
       let reply = p .reply ∙ ap grSays gr-back in
       let ta = p .tails-left ∙ ap (λ (o : Outcome). row (columnOf First) o a) gr-back in
       let tb = p .heads-left ∙ ap (λ (o : Outcome). row (columnOf Second) o b) gr-back in
@@ -179,26 +180,26 @@ plain-gr-text text p lines e t =
 
 -- the rows of a text that was read
 gr-rows : (p : Numbers) (lines : List Numbers) (a b c : List ℕ) → length lines ≡ p .second
-    → listed (arcText (rows (map (columnOf First) lines ++ a) (map (columnOf Second) lines ++ b) (map (columnOf Third) lines ++ c))) (p .second) ≡ map arcOf lines
+    → listed (arcText (openRows (map (columnOf First) lines ++ a) (map (columnOf Second) lines ++ b) (map (columnOf Third) lines ++ c))) (p .second) ≡ map arcOf lines
 gr-rows p lines a b c n =
-    let R = rows (map (columnOf First) lines ++ a) (map (columnOf Second) lines ++ b) (map (columnOf Third) lines ++ c) in
+    let R = openRows (map (columnOf First) lines ++ a) (map (columnOf Second) lines ++ b) (map (columnOf Third) lines ++ c) in
     rw (← n)
     (listed-map arcOf lines none (arcText R) (λ i h.
     let one : i + 1 - 1 ≡ i = omega arith in
     rw (one, front (columnOf First) lines a i 0 h, front (columnOf Second) lines b i 0 h, front (columnOf Third) lines c i 0 h)))
 
 -- what was read is written as it was, exactly where it was plain
-pub write-read-gr : (text a b c : List ℕ) (n m : ℕ) (a′ b′ c′ : List ℕ) → GrPromise text a b c (GrRead n m) a′ b′ c′
-    → (grText n m (rows a′ b′ c′) ≡ text → PlainGr text) × (PlainGr text → grText n m (rows a′ b′ c′) ≡ text)
+pub write-read-gr : (text a b c d : List ℕ) (n m : ℕ) (a′ b′ c′ d′ : List ℕ) → GrPromise text a b c d (GrRead n m) a′ b′ c′ d′
+    → (grText n m (openRows a′ b′ c′) ≡ text → PlainGr text) × (PlainGr text → grText n m (openRows a′ b′ c′) ≡ text)
 unfolding grSays row grText
-write-read-gr text a b c n m a′ b′ c′ q =
-    (λ e. subst PlainGr e (gr-plain n m (rows a′ b′ c′)), λ t. by-outcome t (readGr text a b c) (gr-accepted text a b c) (q .reply) (q .tails-left) (q .heads-left) (q .weights-left))
+write-read-gr text a b c d n m a′ b′ c′ d′ q =
+    (λ e. subst PlainGr e (gr-plain n m (openRows a′ b′ c′)), λ t. by-outcome t (readGr text a b c d) (gr-accepted text a b c d) (q .reply) (q .tails-left) (q .heads-left) (q .weights-left))
   where
     by-outcome : PlainGr text → (o : Outcome) → ((p : Numbers) (lines : List Numbers) → o ≡ read p lines → readText Graph text ≡ read p lines) → accepted (n ∷ m ∷ []) ≡ grSays o
-        → a′ ≡ row (columnOf First) o a → b′ ≡ row (columnOf Second) o b → c′ ≡ row (columnOf Third) o c → grText n m (rows a′ b′ c′) ≡ text
-    by-outcome t (read p lines) from d ta tb tc =
-        let en : n ≡ p .first = ap (λ (r : Reply). getD (r .values) 0 0) d in
-        let em : m ≡ p .second = ap (λ (r : Reply). getD (r .values) 1 0) d in
+        → a′ ≡ row (columnOf First) o a → b′ ≡ row (columnOf Second) o b → c′ ≡ row (columnOf Third) o c → grText n m (openRows a′ b′ c′) ≡ text
+    by-outcome t (read p lines) from e ta tb tc =
+        let en : n ≡ p .first = ap (λ (r : Reply). getD (r .values) 0 0) e in
+        let em : m ≡ p .second = ap (λ (r : Reply). getD (r .values) 1 0) e in
         let w = plain-gr-text text p lines (from p lines refl) t in
         rw (ta, tb, tc, en, em, gr-rows p lines (drop (length lines) a) (drop (length lines) b) (drop (length lines) c) (w .0)) (w .1)
-    by-outcome t (refused r) from d ta tb tc = absurd (not-accepted r (n ∷ m ∷ []) (sym d))
+    by-outcome t (refused r) from e ta tb tc = absurd (not-accepted r (n ∷ m ∷ []) (sym e))

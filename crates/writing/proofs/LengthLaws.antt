@@ -14,7 +14,7 @@ use Rattle.scan.specs.Written.{spread, lineText, closed, listed}
 use Rattle.dimacs.specs.Gr.{grProblem, grArc}
 use Rattle.dimacs.specs.Co.{coProblem, coNode}
 use Rattle.dimacs.specs.Accepted.{GrLimits, CoLimits}
-use Rattle.walks.specs.Rows.{rows}
+use Rattle.walks.specs.Rows.{openRows}
 use Rattle.writing.specs.Text.{arcText, grText, nodeText, coText}
 use Rattle.scan.proofs.DecimalLaws.{decimal-long}
 use Rattle.dimacs.proofs.FormLaws.{arc-spelt, gr-spelt, co-spelt, node-spelt}
@@ -84,7 +84,7 @@ whole-long (negsuc n) low high = let h : n ≤ 999999 = leb→le n 999999 (low .
 -- ---- the graph
 
 module _ (n m : ℕ) (tails heads weights : List ℕ) (g : GrLimits n m tails heads weights) where
-  arc-most : (e : ℕ) → e < m → length (arcText (rows tails heads weights) (suc e)) ≤ 17
+  arc-most : (e : ℕ) → e < m → length (arcText (openRows tails heads weights) (suc e)) ≤ 17
   arc-most e h =
       let one : suc e - 1 ≡ e = omega arith in
       let a = decimal-long 2 (getD tails e 0) (omega (arith, g .tail-most e h, g .nodes)) in
@@ -92,20 +92,20 @@ module _ (n m : ℕ) (tails heads weights : List ℕ) (g : GrLimits n m tails he
       let c = decimal-long 6 (getD weights e 0) (omega (arith, g .weight e h)) in
       rw (one, arc-long (decimal (getD tails e 0)) (decimal (getD heads e 0)) (decimal (getD weights e 0))) (omega arith)
 
-  arcs-most : (k : ℕ) → k ≤ m → length (closed (listed (arcText (rows tails heads weights)) k)) ≤ 18 * k
+  arcs-most : (k : ℕ) → k ≤ m → length (closed (listed (arcText (openRows tails heads weights)) k)) ≤ 18 * k
   unfolding listed closed
   arcs-most zero h = omega arith
   arcs-most (suc k) h =
       let ih = arcs-most k (omega arith) in
       let a = arc-most k h in
-      let b = listed-step (arcText (rows tails heads weights)) k in
+      let b = listed-step (arcText (openRows tails heads weights)) k in
       omega arith
 
   -- at most 36,878 bytes
-  pub gr-most : length (grText n m (rows tails heads weights)) ≤ 36878
+  pub gr-most : length (grText n m (openRows tails heads weights)) ≤ 36878
   unfolding grText
   gr-most =
-      let a = closed-long (lineText grProblem (decimal n ∷ decimal m ∷ [])) (listed (arcText (rows tails heads weights)) m) in
+      let a = closed-long (lineText grProblem (decimal n ∷ decimal m ∷ [])) (listed (arcText (openRows tails heads weights)) m) in
       let b = gr-long (decimal n) (decimal m) in
       let c = arcs-most m (omega arith) in
       let d = decimal-long 2 n (omega (arith, g .nodes)) in

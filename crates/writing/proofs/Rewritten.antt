@@ -27,8 +27,8 @@ use Rattle.dimacs.specs.declared.CoReply.the-variants.{Read as CoRead}
 use Rattle.dimacs.specs.declared.rows.Column.the-variants.{First, Second, Third}
 use Rattle.dimacs.specs.declared.rows.Axis.the-variants.{X, Y}
 use Rattle.dimacs.proofs.Accepted.{gr-count, gr-read, co-read, co-nodes, not-accepted, read-gr-limits, read-co-limits}
-use Rattle.walks.specs.Rows.{rows, at}
-use Rattle.judging.specs.Order.{goodArc, goodPlace, networkJudged}
+use Rattle.walks.specs.Rows.{openRows, at}
+use Rattle.judging.specs.Order.{goodArc, goodPlace, arcsJudged}
 use Rattle.writing.specs.Writes.{placesJudged}
 
 map-long : {A : Type 0} (f : Numbers → A) (lines : List Numbers) → length (map f lines) ≡ length lines
@@ -39,26 +39,26 @@ map-long f (l ∷ lines) = let e = map-long f lines in omega arith
 filled-long : {A : Type 0} (f : Numbers → A) (lines : List Numbers) (old : List A) → length lines ≤ length (map f lines ++ old)
 filled-long f lines old = let a = length-append (map f lines) old in let b = map-long f lines in omega arith
 
-module _ (text a b c : List ℕ) (n m : ℕ) (a′ b′ c′ : List ℕ) (p : GrPromise text a b c (GrRead n m) a′ b′ c′) where
+module _ (text a b c d : List ℕ) (n m : ℕ) (a′ b′ c′ d′ : List ℕ) (p : GrPromise text a b c d (GrRead n m) a′ b′ c′ d′) where
   long : (m ≤ length a′) × (m ≤ length b′) × (m ≤ length c′)
   unfolding grSays row
-  long = by-outcome (readGr text a b c) (gr-read text a b c) (p .reply) (p .tails-left) (p .heads-left) (p .weights-left)
+  long = by-outcome (readGr text a b c d) (gr-read text a b c d) (p .reply) (p .tails-left) (p .heads-left) (p .weights-left)
     where
       by-outcome : (o : Outcome) → ((q : Numbers) (lines : List Numbers) → o ≡ read q lines → readText Graph text ≡ read q lines) → accepted (n ∷ m ∷ []) ≡ grSays o
           → a′ ≡ row (columnOf First) o a → b′ ≡ row (columnOf Second) o b → c′ ≡ row (columnOf Third) o c → (m ≤ length a′) × (m ≤ length b′) × (m ≤ length c′)
-      by-outcome (read q lines) from d ta tb tc =
-          let em : m ≡ q .second = ap (λ (r : Reply). getD (r .values) 1 0) d in
+      by-outcome (read q lines) from e ta tb tc =
+          let em : m ≡ q .second = ap (λ (r : Reply). getD (r .values) 1 0) e in
           let all : length lines ≡ q .second = gr-count text q lines (from q lines refl) .1 in
           let first = filled-long (columnOf First) lines (drop (length lines) a) in
           let second = filled-long (columnOf Second) lines (drop (length lines) b) in
           let third = filled-long (columnOf Third) lines (drop (length lines) c) in
           (rw ta (omega arith), rw tb (omega arith), rw tc (omega arith))
-      by-outcome (refused r) from d ta tb tc = absurd (not-accepted r (n ∷ m ∷ []) (sym d))
+      by-outcome (refused r) from e ta tb tc = absurd (not-accepted r (n ∷ m ∷ []) (sym e))
 
-  pub network-again : networkJudged n m (rows a′ b′ c′) true ≡ Fine
-  unfolding networkJudged
+  pub network-again : arcsJudged n m (openRows a′ b′ c′) true ≡ Fine
+  unfolding arcsJudged
   network-again =
-      let g = read-gr-limits text a b c n m a′ b′ c′ p in
+      let g = read-gr-limits text a b c d n m a′ b′ c′ d′ p in
       let good = each-fine (λ (e : ℕ). goodArc n (at a′ e) (at b′ e) (at c′ e)) BadArc m (λ i low high.
       let h : i - 1 < m = omega arith in
       rw (

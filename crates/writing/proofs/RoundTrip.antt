@@ -12,11 +12,12 @@ use Rattle.rules.specs.Paper.{Reply}
 use Rattle.rules.proofs.JudgingLaws.{both-fine}
 use Rattle.rules.specs.declared.Judged.{Judged}
 use Rattle.rules.specs.declared.Judged.the-variants.{Fine, Refused}
-use Rattle.dimacs.proofs.Accepted.{not-accepted}
+use Rattle.dimacs.proofs.Accepted.{not-accepted, read-gr-open}
 use Rattle.dimacs.specs.Promise.{GrPromise, CoPromise}
-use Rattle.walks.specs.Rows.{rows}
-use Rattle.judging.specs.Order.{lengths, networkJudged}
-use Rattle.judging.proofs.StageLaws.{network-fine}
+use Rattle.dimacs.specs.declared.GrReply.{GrReply}
+use Rattle.walks.specs.Rows.{openRows}
+use Rattle.judging.specs.Order.{lengths, arcsJudged}
+use Rattle.judging.proofs.StageLaws.{arcs-fine-open}
 use Rattle.writing.specs.Text.{grText, coText}
 use Rattle.writing.specs.Writes.{grWriteJudged, placesJudged, coWriteJudged, Writes}
 use Rattle.writing.specs.RoundTrip.{WroteBack, GrReadBack, GrLength, CoReadBack, CoLength, GrWriteBack, CoWriteBack}
@@ -53,19 +54,20 @@ came-back j text written row r row′ w b =
 
 module _ (n m : ℕ) (tails heads weights row : List ℕ) (k : ℕ) (row′ : List ℕ) where
   pub gr-read-back : GrReadBack n m tails heads weights row k row′
-  gr-read-back w a b c la lb lc r a′ b′ c′ p =
-      let R = rows tails heads weights in
-      let d = written-is (grWriteJudged n m R (length row)) (grText n m R) row k row′ w in
-      let j = both-fine (networkJudged n m R true) (lengths (leb (length (grText n m R)) (length row))) (sym (gr-judged n m R (length row)) ∙ d .0) in
-      let g = gr-limits n m R (network-fine n m R true (j .0) .0) in
-      let e = read-written-gr n m tails heads weights g a b c la lb lc r a′ b′ c′ (subst (λ (t : List ℕ). GrPromise t a b c r a′ b′ c′) (d .2) p) in
-      (e .0, λ i h. e .1 i h .0, λ i h. e .1 i h .1, λ i h. e .1 i h .2)
+  gr-read-back w a b c d la lb lc ld r a′ b′ c′ d′ p =
+      let R = openRows tails heads weights in
+      let u = written-is (grWriteJudged n m R (length row)) (grText n m R) row k row′ w in
+      let j = both-fine (arcsJudged n m R true) (lengths (leb (length (grText n m R)) (length row))) (sym (gr-judged n m R (length row)) ∙ u .0) in
+      let g = gr-limits n m _ (arcs-fine-open n m R true (j .0) .0) in
+      let e = read-written-gr n m tails heads weights g a b c d la lb lc ld r a′ b′ c′ d′ (subst (λ (t : List ℕ). GrPromise t a b c d r a′ b′ c′ d′) (u .2) p) in
+      let open-arcs = read-gr-open (take k row′) a b c d n m a′ b′ c′ d′ (subst (λ (s : GrReply). GrPromise (take k row′) a b c d s a′ b′ c′ d′) (e .0) p) in
+      (e .0, λ i h. e .1 i h .0, λ i h. e .1 i h .1, λ i h. e .1 i h .2, open-arcs)
 
   pub gr-length : GrLength n m tails heads weights row k row′
   gr-length w =
-      let R = rows tails heads weights in
+      let R = openRows tails heads weights in
       let d = written-is (grWriteJudged n m R (length row)) (grText n m R) row k row′ w in
-      let j = both-fine (networkJudged n m R true) (lengths (leb (length (grText n m R)) (length row))) (sym (gr-judged n m R (length row)) ∙ d .0) in
+      let j = both-fine (arcsJudged n m R true) (lengths (leb (length (grText n m R)) (length row))) (sym (gr-judged n m R (length row)) ∙ d .0) in
       rw (d .1) (gr-fine n m R (j .0) .3)
 
 module _ (n : ℕ) (x y : List ℤ) (row : List ℕ) (k : ℕ) (row′ : List ℕ) where
@@ -87,14 +89,14 @@ module _ (n : ℕ) (x y : List ℤ) (row : List ℕ) (k : ℕ) (row′ : List �
       rw (d .1) (co-most n (placed w .few) x y (placed w .limits))
 
 pub gr-write-back : (text : List ℕ) → GrWriteBack text
-gr-write-back text a b c n m a′ b′ c′ p row room r row′ w =
-    let R = rows a′ b′ c′ in
-    let back = write-read-gr text a b c n m a′ b′ c′ p in (
+gr-write-back text a b c d n m a′ b′ c′ d′ p row room r row′ w =
+    let R = openRows a′ b′ c′ in
+    let back = write-read-gr text a b c d n m a′ b′ c′ d′ p in (
       (λ t. back .0 (came-back _ text (grText n m R) row r row′ w t)),
       (λ plain.
           let same : grText n m R ≡ text = back .1 plain in
           let long : length (grText n m R) ≤ length row = rw same room in
-          let fine : grWriteJudged n m R (length row) ≡ Fine = gr-judged n m R (length row) ∙ rw (network-again text a b c n m a′ b′ c′ p, le-leb (length (grText n m R)) (length row) long) in
+          let fine : grWriteJudged n m R (length row) ≡ Fine = gr-judged n m R (length row) ∙ rw (network-again text a b c d n m a′ b′ c′ d′ p, le-leb (length (grText n m R)) (length row) long) in
           subst (λ (t : List ℕ). WroteBack t row r row′) same (accepted-is (grWriteJudged n m R (length row)) (grText n m R) row r row′ fine w)),
     )
 

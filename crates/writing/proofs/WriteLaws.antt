@@ -20,8 +20,8 @@ use Rattle.rules.specs.declared.Refusal.the-variants.{RowTooShort, BeyondLimits
 use Rattle.geometry.specs.Box.{withinB}
 use Rattle.walks.specs.Rows.{Rows, Sound, SoundArc}
 use Rattle.dimacs.specs.Accepted.{GrLimits, CoLimits}
-use Rattle.judging.proofs.StageLaws.{network-fine}
-use Rattle.judging.specs.Order.{lengths, goodPlace, coordinates, networkJudged}
+use Rattle.judging.proofs.StageLaws.{arcs-fine-open}
+use Rattle.judging.specs.Order.{lengths, goodPlace, coordinates, arcsJudged}
 use Rattle.pages.specs.Page.{written, Puts}
 use Rattle.pages.proofs.PageLaws.{reads}
 use Rattle.writing.specs.Text.{grText, coText}
@@ -69,9 +69,9 @@ page-is text p q r x h =
 
 -- ---- judgements in parts
 
-pub gr-judged : (n m : ℕ) (R : Rows) (room : ℕ) → grWriteJudged n m R room ≡ orElse (networkJudged n m R true) (lengths (leb (length (grText n m R)) room))
+pub gr-judged : (n m : ℕ) (R : Rows) (room : ℕ) → grWriteJudged n m R room ≡ orElse (arcsJudged n m R true) (lengths (leb (length (grText n m R)) room))
 unfolding grWriteJudged
-gr-judged n m R room = ap (orElse (networkJudged n m R true)) (nothing-follows _)
+gr-judged n m R room = ap (orElse (arcsJudged n m R true)) (nothing-follows _)
 
 pub co-judged : (n : ℕ) (x y : List ℤ) (room : ℕ) → coWriteJudged n x y room ≡ orElse (placesJudged n x y) (lengths (leb (length (coText n x y)) room))
 unfolding coWriteJudged
@@ -140,11 +140,12 @@ places-fine n x y e =
 
 -- ---- there is room on the page
 
-pub gr-fine : (n m : ℕ) (R : Rows) → networkJudged n m R true ≡ Fine
+pub gr-fine : (n m : ℕ) (R : Rows) → arcsJudged n m R true ≡ Fine
     → (m ≤ length (R .tails)) × (m ≤ length (R .heads)) × (m ≤ length (R .weights)) × (length (grText n m R) ≤ 36878)
+unfolding grText
 gr-fine n m R e =
-    let s = network-fine n m R true e .0 in
-    (s .tails-long, s .heads-long, s .weights-long, gr-most n m (R .tails) (R .heads) (R .weights) (gr-limits n m R s))
+    let s = arcs-fine-open n m R true e .0 in
+    (s .tails-long, s .heads-long, s .weights-long, gr-most n m (R .tails) (R .heads) (R .weights) (gr-limits n m _ s))
 
 pub co-fine : (n : ℕ) (x y : List ℤ) → placesJudged n x y ≡ Fine → (n ≤ length x) × (n ≤ length y) × (length (coText n x y) ≤ 36878)
 co-fine n x y e =

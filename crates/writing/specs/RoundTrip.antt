@@ -9,11 +9,12 @@ use mathlib.Core.List.{List, _++_}
 use lib.IntN.{ℤ, pos}
 use lib.ListN.{length, take, drop, getD}
 use Rattle.dimacs.specs.Promise.{GrPromise, CoPromise}
+use Rattle.dimacs.specs.Accepted.{GrOpen}
 use Rattle.dimacs.specs.declared.GrReply.{GrReply}
 use Rattle.dimacs.specs.declared.GrReply.the-variants.{Read as GrRead}
 use Rattle.dimacs.specs.declared.CoReply.{CoReply}
 use Rattle.dimacs.specs.declared.CoReply.the-variants.{Read as CoRead}
-use Rattle.walks.specs.Rows.{rows}
+use Rattle.walks.specs.Rows.{openRows}
 use Rattle.writing.specs.Plain.{PlainGr, PlainCo}
 use Rattle.writing.specs.Writes.{GrWrites, CoWrites}
 use Rattle.writing.specs.declared.WriteReply.{WriteReply}
@@ -28,17 +29,17 @@ abbrev pub WroteBack : List ℕ → List ℕ → WriteReply → List ℕ → Typ
 WroteBack text row r row′ = (r ≡ Written (length text)) × (row′ ≡ text ++ drop (length text) row)
 
 module _ (n m : ℕ) (tails heads weights row : List ℕ) (k : ℕ) (row′ : List ℕ) where
-  -- 1. The k bytes that were written are read, whatever rows are lent, with n, m and every arc. `gr-read-back`
+  -- 1. The k bytes that were written are read, whatever rows are lent, with n, m and every arc; each is open. `gr-read-back`
   abbrev pub GrReadBack : Type 0
   GrReadBack =
-      GrWrites n m (rows tails heads weights) row (Written k) row′
-      → (a b c : List ℕ) → 2048 ≤ length a → 2048 ≤ length b → 2048 ≤ length c
-      → (r : GrReply) (a′ b′ c′ : List ℕ) → GrPromise (take k row′) a b c r a′ b′ c′
-      → (r ≡ GrRead n m) × SameFirst 0 m a′ tails × SameFirst 0 m b′ heads × SameFirst 0 m c′ weights
+      GrWrites n m (openRows tails heads weights) row (Written k) row′
+      → (a b c d : List ℕ) → 2048 ≤ length a → 2048 ≤ length b → 2048 ≤ length c → 2048 ≤ length d
+      → (r : GrReply) (a′ b′ c′ d′ : List ℕ) → GrPromise (take k row′) a b c d r a′ b′ c′ d′
+      → (r ≡ GrRead n m) × SameFirst 0 m a′ tails × SameFirst 0 m b′ heads × SameFirst 0 m c′ weights × GrOpen m d d′
 
   -- 2. They are at most 36,878, so reading them is never refused as 1. `gr-length`
   abbrev pub GrLength : Type 0
-  GrLength = GrWrites n m (rows tails heads weights) row (Written k) row′ → k ≤ 36_878
+  GrLength = GrWrites n m (openRows tails heads weights) row (Written k) row′ → k ≤ 36_878
 
 module _ (n : ℕ) (x y : List ℤ) (row : List ℕ) (k : ℕ) (row′ : List ℕ) where
   -- 3. So are those of the coordinates, with both of every node. `co-read-back`
@@ -56,8 +57,8 @@ module _ (n : ℕ) (x y : List ℤ) (row : List ℕ) (k : ℕ) (row′ : List �
 -- comment and ended in byte 10. `gr-write-back`
 abbrev pub GrWriteBack : List ℕ → Type 0
 GrWriteBack text =
-    (a b c : List ℕ) (n m : ℕ) (a′ b′ c′ : List ℕ) → GrPromise text a b c (GrRead n m) a′ b′ c′
-    → (row : List ℕ) → length text ≤ length row → (r : WriteReply) (row′ : List ℕ) → GrWrites n m (rows a′ b′ c′) row r row′
+    (a b c d : List ℕ) (n m : ℕ) (a′ b′ c′ d′ : List ℕ) → GrPromise text a b c d (GrRead n m) a′ b′ c′ d′
+    → (row : List ℕ) → length text ≤ length row → (r : WriteReply) (row′ : List ℕ) → GrWrites n m (openRows a′ b′ c′) row r row′
     → WroteBack text row r row′ ↔ PlainGr text
 
 -- 6. The same of coordinates, where the nodes also stood in ascending order. `co-write-back`

@@ -13,7 +13,7 @@ use Rattle.rules.specs.declared.Judged.{Judged}
 use Rattle.rules.specs.declared.Judged.the-variants.{Fine, Refused}
 use Rattle.rules.specs.declared.Refusal.the-variants.{BeyondLimits}
 use Rattle.walks.specs.Rows.{Rows}
-use Rattle.judging.specs.Order.{lengths, coordinates, networkJudged}
+use Rattle.judging.specs.Order.{lengths, coordinates, arcsJudged}
 use Rattle.writing.specs.Text.{grText, coText}
 use Rattle.writing.specs.declared.WriteReply.{WriteReply}
 use Rattle.writing.specs.declared.WriteReply.the-variants.{Written, Refused as NotWritten}
@@ -22,7 +22,7 @@ use Rattle.writing.specs.declared.WriteReply.the-variants.{Written, Refu
 
 -- .gr: 5, 2 for the number rows, 8, and last 2 where the text row is shorter than the text
 unfoldable pub grWriteJudged : ℕ → ℕ → Rows → ℕ → Judged
-grWriteJudged n m R room = inTurn (networkJudged n m R true ∷ lengths (leb (length (grText n m R)) room) ∷ [])
+grWriteJudged n m R room = inTurn (arcsJudged n m R true ∷ lengths (leb (length (grText n m R)) room) ∷ [])
 
 -- coordinates without a network: 5 for n, 2 for the number rows, 9
 unfoldable pub placesJudged : ℕ → List ℤ → List ℤ → Judged

@@ -2,7 +2,7 @@
 mod lines;
 mod texts;
 
-use judging::network::judge_network;
+use judging::network::judge_arc_rows;
 use judging::places::judge_places;
 use judging::sizes::judge_lengths;
 use judging::sizes::unless;
@@ -15,7 +15,7 @@ use texts::put_places;
 ghost use mathlib.Core.Path.{_≡_};
 ghost use lib.Dec.{leb};
 ghost use lib.ListN.{length};
-ghost use Rattle.walks.specs.Rows.{rows};
+ghost use Rattle.walks.specs.Rows.{openRows};
 ghost use Rattle.judging.specs.Order.{lengths};
 ghost use Rattle.writing.specs.Writes.{placesJudged, Writes, GrWrites, CoWrites};
 
@@ -45,10 +45,10 @@ pub fn write_gr(
     weights: &[u32],
     text: &mut [u8],
 ) -> WriteReply
-    ensures { λ r. ⌜ GrWrites n m (rows (now (tails .entry)) (now (heads .entry)) (now (weights .entry)))
+    ensures { λ r. ⌜ GrWrites n m (openRows (now (tails .entry)) (now (heads .entry)) (now (weights .entry)))
         (now (text .entry)) r (now (text .exit)) ⌝ }
 {
-    let judged = judge_network(n, m, tails, heads, weights, true);
+    let judged = judge_arc_rows(n, m, tails, heads, weights, true);
     let Judged::Refused(refusal) = judged else {
         let mut page = [0u8; ROOM];
         let end = put_network(&mut page, n, m, tails, heads, weights);

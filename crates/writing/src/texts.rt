@@ -6,7 +6,7 @@ use crate::lines::put_node_line;
 use crate::lines::put_places_line;
 ghost use Prim.Native.Nat.{_≤_};
 ghost use lib.ListN.{length};
-ghost use Rattle.walks.specs.Rows.{rows};
+ghost use Rattle.walks.specs.Rows.{openRows};
 ghost use Rattle.writing.specs.Text.{grText, coText};
 ghost use Rattle.pages.specs.Page.{Puts};
 
@@ -20,8 +20,8 @@ pub fn put_network(
     weights: &[u32],
 ) -> usize
     requires { ⌜ (m ≤ length (now tails)) × (m ≤ length (now heads)) × (m ≤ length (now weights)) ⌝ }
-    requires { ⌜ length (grText n m (rows (now tails) (now heads) (now weights))) ≤ 36878 ⌝ }
-    ensures { λ r. ⌜ Puts (grText n m (rows (now (tails .entry)) (now (heads .entry)) (now (weights .entry)))) 0
+    requires { ⌜ length (grText n m (openRows (now tails) (now heads) (now weights))) ≤ 36878 ⌝ }
+    ensures { λ r. ⌜ Puts (grText n m (openRows (now (tails .entry)) (now (heads .entry)) (now (weights .entry)))) 0
         (now (page .entry)) r (now (page .exit)) ⌝ }
 {
     let mut at = put_graph_line(page, 0, n, m);

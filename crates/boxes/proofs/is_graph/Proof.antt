@@ -15,11 +15,11 @@ slice-aggregate-read-gr c =
 
 returns-2 : tie.Need-returns-2
 returns-2 c =
-    graph-refused _ (c .before .before .before .before .before .before .before .before .before .before .before .graph .given .1) (rw (c .enum-told2 .given .1) at (c .before .before .before .before .before .read-gr .ensures))
+    graph-refused _ (c .before .before .before .before .before .before .before .before .before .before .before .before .before .graph .given .1) (rw (c .enum-told2 .given .1) at (c .before .before .before .before .before .before .read-gr .ensures))
 
 returns-3 : tie.Need-returns-3
 returns-3 c =
-    graph-read _ (c .before .before .before .before .before .before .before .before .before .before .before .before .graph .given .1) (rw (c .before .reply .given .1) at (c .before .before .before .before .before .before .read-gr .ensures))
+    graph-read _ (c .before .before .before .before .before .before .before .before .before .before .before .before .before .before .graph .given .1) (rw (c .before .reply .given .1) at (c .before .before .before .before .before .before .before .read-gr .ensures))
 
 pub is-graph-spec : {M : Type 1} → statement M
 is-graph-spec =
@@ -28,7 +28,7 @@ is-graph-spec =
     (λ c. search needs) (λ c. search needs)
     returns
     slice-aggregate-read-gr
-    (λ c. search needs) (λ c. search needs) (λ c. search needs) (λ c κs. search needs) (λ c. search needs)
-    (λ c. search needs)
+    (λ c. search needs) (λ c. search needs) (λ c. search needs) (λ c. search needs) (λ c κs. search needs)
+    (λ c. search needs) (λ c. search needs)
     returns-2
     returns-3)

@@ -20,19 +20,19 @@ slice-aggregate-read-gr c =
 
 list-with-places-requires : tie.Need-list-with-places-requires
 list-with-places-requires c κs =
-    let read = rw (c .before .before .before .before .before .reply .given .1) at (c .before .before .before .before .before .before .before .before .before .before .read-gr .ensures) in
-    (read-gr-limits _ _ _ _ _ _ _ _ _ read .arcs, search needs)
+    let read = rw (c .before .before .before .before .before .before .reply .given .1) at (c .before .before .before .before .before .before .before .before .before .before .before .before .read-gr .ensures) in
+    (read-gr-limits _ _ _ _ _ _ _ _ _ _ _ read .arcs, search needs)
 
 returns-2 : tie.Need-returns-2
 returns-2 c =
-    let read = rw (c .before .before .before .before .before .before .reply .given .1) at (c .before .before .before .before .before .before .before .before .before .before .before .read-gr .ensures) in
+    let read = rw (c .before .before .before .before .before .before .before .reply .given .1) at (c .before .before .before .before .before .before .before .before .before .before .before .before .before .read-gr .ensures) in
     let rest = c .list-with-places .ensures .0 in
-    (record { text = rest .text; says = gr-on _ (c .before .before .before .before .before .before .before .before .before .before .before .before .before .before .before .before .before .graph .given .1) read (rest .says); puts = rest .puts }, omega arith)
+    (record { text = rest .text; says = gr-on _ (c .before .before .before .before .before .before .before .before .before .before .before .before .before .before .before .before .before .before .before .before .graph .given .1) read (rest .says); puts = rest .puts }, omega arith)
 
 returns-3 : tie.Need-returns-3
 returns-3 c =
-    let read = rw (c .before .before .before .reply2 .given .1) at (c .before .before .before .before .before .before .before .before .read-gr .ensures) in
-    (record { text = placeLine _; says = gr-said _ (c .before .before .before .before .before .before .before .before .before .before .before .before .before .before .graph .given .1) read; puts = c .put-place .ensures .0 }, omega arith)
+    let read = rw (c .before .before .before .reply2 .given .1) at (c .before .before .before .before .before .before .before .before .before .read-gr .ensures) in
+    (record { text = placeLine _; says = gr-said _ (c .before .before .before .before .before .before .before .before .before .before .before .before .before .before .before .before .graph .given .1) read; puts = c .put-place .ensures .0 }, omega arith)
 
 pub list-spec : {M : Type 1} → statement M
 list-spec =
@@ -41,7 +41,8 @@ list-spec =
     (λ c. search needs) (λ c. search needs) (λ c κs. search needs)
     returns
     slice-aggregate-read-gr
-    (λ c. search needs) (λ c. search needs) (λ c. search needs) (λ c κs. search needs) (λ c. search needs)
+    (λ c. search needs) (λ c. search needs) (λ c. search needs) (λ c. search needs) (λ c κs. search needs)
+    (λ c. search needs)
     list-with-places-requires
     returns-2
     (λ c. search needs) (λ c κs. search needs)

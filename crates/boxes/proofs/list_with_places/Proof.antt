@@ -19,8 +19,8 @@ slice-aggregate-read-co c =
 
 returns-2 : tie.Need-returns-2
 returns-2 c =
-    let read = rw (c .before .before .before .before .before .before .before .before .before .before .before .enum-told2 .given .1) at (c .before .before .before .before .before .before .before .before .before .before .before .before .before .before .before .read-co .ensures) in
-    (record { text = builtText _ _ _ _; says = co-built _ (c .before .before .before .before .before .before .before .before .before .before .before .before .before .before .before .before .before .before .before .before .places .given .1) _ read (c .before .before .before .before .build .ensures); puts = c .put-built .ensures .0 }, omega arith)
+    let read = rw (c .before .before .before .before .before .before .before .before .before .before .before .before .enum-told2 .given .1) at (c .before .before .before .before .before .before .before .before .before .before .before .before .before .before .before .before .read-co .ensures) in
+    (record { text = builtText _ _ _ _ _ _; says = co-built _ (c .before .before .before .before .before .before .before .before .before .before .before .before .before .before .before .before .before .before .before .before .before .places .given .1) _ read (c .before .before .before .before .build .ensures); puts = c .put-built .ensures .0 }, omega arith)
 
 returns-3 : tie.Need-returns-3
 returns-3 c =

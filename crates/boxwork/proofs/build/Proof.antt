@@ -4,7 +4,7 @@ use native.Mathlib.Omega.{arith}
 use borrow.Author.Needs.{needs}
 use Rattle.rules.specs.declared.Judged.the-variants.{Fine}
 use Rattle.walks.specs.Rows.{rows}
-use Rattle.boxwork.specs.Says.{BuildSays}
+use Rattle.boxwork.specs.Says.{Builds}
 use Rattle.judging.proofs.StageLaws.{BoxesLent as Lent}
 use Rattle.judging.proofs.FineLaws.{build-fine}
 use Rattle.boxwork.proofs.Meaning.{heads-nodes, built-by}
@@ -15,12 +15,12 @@ use Rattle.boxwork.proofs.build.Tie as tie
 lent :
     (c : tie.After-judge-build) →
     c .judge-build .result ≡ Fine →
-    let a = c .before .before .before .before .before .args in
-    Lent (a .n) (a .m) (rows (a .tails .now) (a .heads .now) (a .weights .now)) (a .x .now) (a .y .now) (a .boxes .now)
+    let a = c .before .before .before .before .before .before .args in
+    Lent (a .n) (a .m) (rows (a .tails .now) (a .heads .now) (a .weights .now) (a .closures .now)) (a .x .now) (a .y .now) (a .boxes .now)
 lent c e = build-fine _ _ _ _ _ _ (sym (c .judge-build .ensures) ∙ e)
 
 returns : tie.Need-returns
-returns c = let e = c .enum-told2 .given .1 in rw e (BuildSays.refused (sym (c .before .before .judge-build .ensures) ∙ e))
+returns c = let e = c .enum-told2 .given .1 in rw e (Builds.refused (sym (c .before .before .judge-build .ensures) ∙ e))
 
 draw-heads-requires : tie.Need-draw-heads-requires
 draw-heads-requires c κs =
@@ -36,7 +36,7 @@ returns-2 : tie.Need-returns-2
 returns-2 c =
     let j = c .before .before .before .before .before .before .before .before in
     let e = c .before .before .before .before .before .before .enum-told .given .1 in
-    BuildSays.built (sym (j .judge-build .ensures) ∙ e) (built-by (lent j e .sound) _ _ (c .before .grow-all .ensures) (c .before .before .before .before .draw-heads .ensures))
+    Builds.built (sym (j .judge-build .ensures) ∙ e) (built-by (lent j e .sound) _ _ (c .before .grow-all .ensures) (c .before .before .before .before .draw-heads .ensures))
 
 pub build-spec : {M : Type 1} → statement M
 build-spec =

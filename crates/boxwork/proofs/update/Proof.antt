@@ -1,16 +1,16 @@
 -- `boxwork::update` meets its contract.
 use Prim.Native.Nat.{_≤_}
-use mathlib.Core.Path.{_≡_, sym, _∙_}
+use mathlib.Core.Path.{_≡_, refl, sym, _∙_}
 use native.Mathlib.Omega.{arith}
-use borrow.Author.Needs.{needs}
 use Rattle.rules.specs.declared.Judged.the-variants.{Fine}
 use Rattle.walks.specs.Rows.{rows}
 use Rattle.drawing.proofs.Steps.{first-arcs}
-use Rattle.boxwork.specs.Says.{UpdateSays, reweighted}
+use Rattle.boxwork.specs.Says.{Updates, changed}
 use Rattle.judging.proofs.StageLaws.{BoxesLent as Lent}
 use Rattle.judging.proofs.FineLaws.{build-fine, check-fine, update-fine}
-use Rattle.boxwork.proofs.ReweightedLaws.{lent-reweighted}
+use Rattle.boxwork.proofs.ChangedLaws.{lent-changed}
 use Rattle.boxwork.proofs.Meaning.{heads-nodes, updated-says}
+use borrow.Author.Needs.{needs}
 use Rattle.boxwork.proofs.update.Statement.{statement}
 use Rattle.boxwork.proofs.update.Tie as tie
 
@@ -18,50 +18,43 @@ use Rattle.boxwork.proofs.update.Tie as tie
 fine :
     (c : tie.After-judge-update) →
     c .judge-update .result ≡ Fine →
-    let a = c .before .before .before .before .before .before .args in
-    let R = rows (a .tails .now) (a .heads .now) (a .weights .now) in
+    let a = c .before .before .before .before .before .before .before .before .args in
+    let R = rows (a .tails .now) (a .heads .now) (a .weights .now) (a .closures .now) in
     Lent (a .n) (a .m) R (a .x .now) (a .y .now) (a .boxes .now) × (1 ≤ a .arc) × (a .arc ≤ a .m)
-    × Lent (a .n) (a .m) (reweighted R (a .arc) (a .weight)) (a .x .now) (a .y .now) (a .boxes .now)
+    × Lent (a .n) (a .m) (changed R (a .arc) (a .weight) (a .closure)) (a .x .now) (a .y .now) (a .boxes .now)
 fine c e =
-    let u = update-fine _ _ _ _ _ _ _ _ (sym (c .judge-update .ensures) ∙ e) in
+    let u = update-fine _ _ _ _ _ _ _ _ _ (sym (c .judge-update .ensures) ∙ e) in
     let l = build-fine _ _ _ _ _ _ (check-fine _ _ _ _ _ _ (u .0) .0) in
-    (l, u .1, u .2, lent-reweighted (l .sound) _ _ (u .1) (u .2) (u .3) l)
+    (l, u .1, u .2, lent-changed (l .sound) _ _ _ (u .1) (u .2) (u .3) (u .4) l)
 
 returns : tie.Need-returns
-returns c = let e = c .enum-told2 .given .1 in rw e (UpdateSays.refused (sym (c .before .before .judge-update .ensures) ∙ e))
+returns c = let e = c .enum-told2 .given .1 in rw e (Updates.refused (sym (c .before .before .judge-update .ensures) ∙ e))
 
-set-weight-requires : tie.Need-set-weight-requires
-set-weight-requires c κs =
-    let f = fine (c .before .before .before) (c .before .enum-told .given .1) in
-    (f .1, omega (arith, f .2, f .0 .sound .weights-long))
+set-arc-requires : tie.Need-set-arc-requires
+set-arc-requires c κs =
+    let f = fine (c .before .before .before .before) (c .before .before .enum-told .given .1) in (f .1, omega (arith, f .2, f .0 .sound .weights-long), omega (arith, f .2, f .0 .sound .closures-long))
 
 draw-heads-requires : tie.Need-draw-heads-requires
 draw-heads-requires c κs =
-    let f = fine (c .before .before .before .before .before .before .before) (c .before .before .before .before .before .enum-told .given .1) in
-    let l = f .0 in
-    (heads-nodes (l .sound) (l .x-long) (omega (arith, f .2)), heads-nodes (l .sound) (l .y-long) (omega (arith, f .2)), omega (arith, f .2, l .boxes-long))
+    let f = fine (c .before .before .before .before .before .before .before .before .before .before) (c .before .before .before .before .before .before .before .before .enum-told .given .1) in let l = f .0 in (heads-nodes (l .sound) (l .x-long) (omega (arith, f .2)), heads-nodes (l .sound) (l .y-long) (omega (arith, f .2)), omega (arith, f .2, l .boxes-long))
 
 grow-all-requires : tie.Need-grow-all-requires
 grow-all-requires c κs =
-    let s = c .before .before .before .before .before .before .before in
-    let f = fine (s .before .before .before .before) (s .before .before .enum-told .given .1) in
-    let l = f .3 in
-    (rw (s .set-weight .ensures) (first-arcs (l .sound) _ (omega (arith, f .2))), l .x-long, l .y-long, omega (arith, f .2, l .boxes-long, c .before .before .before .draw-heads .ensures .long))
+    let f = fine (c .before .before .before .before .before .before .before .before .before .before .before .before .before .before .before) (c .before .before .before .before .before .before .before .before .before .before .before .before .before .enum-told .given .1) in let l = f .3 in (rw (c .before .before .before .before .before .before .before .before .before .before .set-arc .ensures .0, c .before .before .before .before .before .before .before .before .before .before .set-arc .ensures .1) (first-arcs (l .sound) _ (omega (arith, f .2))), l .x-long, l .y-long, omega (arith, f .2, l .boxes-long, c .before .before .before .before .draw-heads .ensures .long))
 
 returns-2 : tie.Need-returns-2
 returns-2 c =
-    let s = c .before .before .before .before .before .before .before .before .before in
-    updated-says (sym (s .before .before .before .before .judge-update .ensures) ∙ s .before .before .enum-told .given .1) (s .set-weight .ensures)
-    (c .before .before .before .before .before .draw-heads .ensures) (c .before .grow-all .ensures)
+    let a = c .before .before .before .before .before .before .before .before .before .before .before .before .before .before .before .before .before .before .before .before .before .before .before .before .before .args in updated-says _ (rows (a .tails .now) (a .heads .now) (a .weights .now) (a .closures .now)) (a .arc) (a .weight) (a .closure) (sym (c .before .before .before .before .before .before .before .before .before .before .before .before .before .before .before .before .before .judge-update .ensures) ∙ c .before .before .before .before .before .before .before .before .before .before .before .before .before .before .before .enum-told .given .1) (rw (c .before .before .before .before .before .before .before .before .before .before .before .before .set-arc .ensures .0, c .before .before .before .before .before .before .before .before .before .before .before .before .set-arc .ensures .1) refl) (c .before .before .before .before .before .before .draw-heads .ensures) (c .before .grow-all .ensures)
 
 pub update-spec : {M : Type 1} → statement M
 update-spec =
     tie.close
     (tie.spec
     (λ c κs. search needs) (λ c. search needs) (λ c. search needs) (λ c. search needs) (λ c. search needs)
+    (λ c. search needs)
     returns
-    set-weight-requires
+    set-arc-requires
     draw-heads-requires
     grow-all-requires
-    (λ c. search needs) (λ c. search needs)
+    (λ c. search needs) (λ c. search needs) (λ c. search needs)
     returns-2)

@@ -9,12 +9,12 @@ use Rattle.copies.proofs.call_on.Tie as tie
 
 returns : tie.Need-returns
 returns c =
-    let known = sym (c .before .before .before .before .before .before .before .before .before .before .task-of .ensures) ∙ ap taskCall (c .before .before .before .before .before .before .before .before .task .given .1) in
-    (met-case (ap request.Call known) (c .before .before .before .work-on .ensures .0), c .before .before .before .work-on .ensures .1)
+    let known = sym (c .before .before .before .before .before .before .before .before .before .before .before .before .before .task-of .ensures) ∙ ap taskCall (c .before .before .before .before .before .before .before .before .before .before .before .task .given .1) in
+    (met-case (ap request.Call known) (c .before .before .before .before .before .work-on .ensures .0), c .before .before .before .before .before .work-on .ensures .1)
 
 returns-2 : tie.Need-returns-2
 returns-2 c =
-    let known = sym (c .before .before .before .before .before .before .before .before .before .task-of .ensures) ∙ ap taskCall (c .before .before .before .before .before .before .before .task2 .given .1) in
+    let known = sym (c .before .before .before .before .before .before .before .before .before .before .task-of .ensures) ∙ ap taskCall (c .before .before .before .before .before .before .before .before .task2 .given .1) in
     (met-case (ap request.Call known) (c .before .before .trip-on .ensures .0), c .before .before .trip-on .ensures .1)
 
 pub call-on-spec : {M : Type 1} → statement M
@@ -22,6 +22,7 @@ call-on-spec =
     tie.close
     (tie.spec
     (λ c κs. search needs) (λ c. search needs) (λ c κs. search needs) (λ c. search needs) (λ c. search needs)
+    (λ c. search needs)
     returns
-    (λ c. search needs) (λ c κs. search needs) (λ c. search needs) (λ c. search needs)
+    (λ c. search needs) (λ c κs. search needs) (λ c. search needs) (λ c. search needs) (λ c. search needs)
     returns-2)

@@ -1,17 +1,17 @@
 -- `judging::judge_search` meets its contract: a refusal is handed on as it came.
 use mathlib.Core.Path.{sym, _∙_}
 use Rattle.rules.proofs.JudgingLaws.{refusal-decides, rest-decides, nothing-follows}
-use Rattle.judging.specs.Order.{searchJudged}
+use Rattle.judging.specs.Order.{searchedBy, searchJudged}
 use borrow.Author.Needs.{needs}
 use Rattle.judging.proofs.judge_search.Statement.{statement}
 use Rattle.judging.proofs.judge_search.Tie as tie
 
 returns : tie.Need-returns
-unfolding searchJudged
+unfolding searchedBy searchJudged
 returns c = refusal-decides _ (c .before .before .judge-network .ensures) (c .enum-told2 .given .1)
 
 returns-2 : tie.Need-returns-2
-unfolding searchJudged
+unfolding searchedBy searchJudged
 returns-2 c =
     rest-decides (c .before .before .before .judge-network .ensures) (c .before .enum-told .given .1)
     (c .judge-ends .ensures ∙ sym (nothing-follows _))

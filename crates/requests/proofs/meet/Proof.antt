@@ -18,7 +18,7 @@ returns-3 c =
 
 returns-4 : tie.Need-returns-4
 returns-4 c =
-    (met-case (c .before .before .before .before .before .before .before .enum-told .given .1) (c .before .before .graph .ensures .0), omega arith)
+    (met-case (c .before .before .before .before .before .before .before .before .before .enum-told .given .1) (c .before .before .before .before .graph .ensures .0), omega arith)
 
 returns-5 : tie.Need-returns-5
 returns-5 c =
@@ -26,7 +26,7 @@ returns-5 c =
 
 returns-6 : tie.Need-returns-6
 returns-6 c =
-    (met-any tt (c .before .before .before .before .before .before .before .before .before .request4 .given .1) (c .before .before .before .call-on .ensures .0), omega arith)
+    (met-any tt (c .before .before .before .before .before .before .before .before .before .before .before .request4 .given .1) (c .before .before .before .before .before .call-on .ensures .0), omega arith)
 
 returns-7 : tie.Need-returns-7
 returns-7 c =

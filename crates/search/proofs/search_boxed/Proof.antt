@@ -16,8 +16,8 @@ use Rattle.search.proofs.search_boxed.Tie as tie
 -- what is lent, where it was judged fine
 fine :
     (c : tie.After-enum-told) →
-    let a = c .before .before .before .before .before .before .before .args in
-    SearchLent (a .n) (a .m) (rows (a .tails .now) (a .heads .now) (a .weights .now)) (a .s) (a .t) (length (a .route .now))
+    let a = c .before .before .before .before .before .before .before .before .args in
+    SearchLent (a .n) (a .m) (rows (a .tails .now) (a .heads .now) (a .weights .now) (a .closures .now)) (a .s) (a .t) (length (a .route .now))
     × (a .n ≤ length (a .x .now))
     × (a .n ≤ length (a .y .now))
     × (4 * a .m ≤ length (a .boxes .now))
@@ -26,11 +26,11 @@ fine c = boxed-fine _ _ _ _ _ _ _ _ _ (sym (c .before .before .judge-boxed .ensu
 sub-at : tie.Need-sub-at
 sub-at c = let f = fine c in omega (arith, f .0)
 
-shared-slice-copy-out-t20 : tie.Need-shared-slice-copy-out-t20
-shared-slice-copy-out-t20 c = let f = fine c in omega (arith, f .0)
+shared-slice-copy-out-t21 : tie.Need-shared-slice-copy-out-t21
+shared-slice-copy-out-t21 c = let f = fine c in omega (arith, f .0)
 
-shared-slice-copy-out-t23 : tie.Need-shared-slice-copy-out-t23
-shared-slice-copy-out-t23 c = let f = fine (c .before) in omega (arith, f .0)
+shared-slice-copy-out-t24 : tie.Need-shared-slice-copy-out-t24
+shared-slice-copy-out-t24 c = let f = fine (c .before) in omega (arith, f .0)
 
 find-requires : tie.Need-find-requires
 find-requires c κs =
@@ -40,9 +40,9 @@ find-requires c κs =
 
 returns : tie.Need-returns
 returns c =
-    let a = c .before .before .before .before .before .before .before .before .before .before .before .before .before .args in
-    let answers = rw (back (coordinate (a .x .now) (a .t)) (c .before .before .before .before .before .t20 .given), back (coordinate (a .y .now) (a .t)) (c .before .before .before .before .t23 .given)) at (c .before .before .find .ensures) in
-    answered (sym (c .before .before .before .before .before .before .before .before .judge-boxed .ensures) ∙ c .before .before .before .before .before .before .enum-told .given .1) (answers-alike (held-arcs (a .x .now) (a .y .now) (a .boxes .now) (a .t) _) answers)
+    let a = c .before .before .before .before .before .before .before .before .before .before .before .before .before .before .args in
+    let answers = rw (back (coordinate (a .x .now) (a .t)) (c .before .before .before .before .before .t21 .given), back (coordinate (a .y .now) (a .t)) (c .before .before .before .before .t24 .given)) at (c .before .before .find .ensures) in
+    answered (sym (c .before .before .before .before .before .before .before .before .judge-boxed .ensures) ∙ c .before .before .before .before .before .before .enum-told .given .1) (answers-alike (held-arcs (a .x .now) (a .y .now) (a .boxes .now) (a .t) _ _) answers)
 
 returns-2 : tie.Need-returns-2
 returns-2 c = refused (sym (c .before .before .before .judge-boxed .ensures) ∙ c .before .j .given .1)
@@ -54,9 +54,9 @@ search-boxed-spec =
     (λ c κs. search needs) (λ c. search needs) (λ c. search needs)
     sub-at
     (λ c. search needs)
-    shared-slice-copy-out-t20
+    shared-slice-copy-out-t21
     (λ c. search needs)
-    shared-slice-copy-out-t23
+    shared-slice-copy-out-t24
     find-requires
     (λ c. search needs)
     returns

@@ -41,4 +41,6 @@ put-words-spec =
     (λ c. search needs) (λ c. search needs) (λ c κs. search needs)
     (λ c. (puts-case wordsText (c .before .before .before .before .why9 .given .1) (c .put-after2 .ensures .0), omega arith))
     (λ c. search needs) (λ c. search needs) (λ c. search needs) (λ c κs. search needs) (λ c κs. search needs)
-    (λ c. (puts-case wordsText (c .before .before .before .before .before .before .before .why10 .given .1) (puts-both (c .before .before .put-between8 .ensures .0) (c .put-count .ensures .0)), omega arith)))
+    (λ c. (puts-case wordsText (c .before .before .before .before .before .before .before .why10 .given .1) (puts-both (c .before .before .put-between8 .ensures .0) (c .put-count .ensures .0)), omega arith))
+    (λ c. search needs) (λ c. search needs) (λ c. search needs) (λ c κs. search needs)
+    (λ c. (puts-case wordsText (c .before .before .before .before .before .why11 .given .1) (c .put-between9 .ensures .0), omega arith)))

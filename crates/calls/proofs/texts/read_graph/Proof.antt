@@ -13,25 +13,25 @@ use Rattle.calls.proofs.texts.read_graph.Tie as tie
 
 returns : tie.Need-returns
 returns c =
-    let e = ap (heldIn (c .before .before .before .before .before .before .before .before .args .text .now)) (c .before .before .enum-told .given .1) in
+    let e = ap (heldIn (c .before .before .before .before .before .before .before .before .before .args .text .now)) (c .before .before .enum-told .given .1) in
     (record { text = noFileLine; says = ReadsGraph.no-file e; puts = c .put-no-file .ensures .0 }, omega arith)
 
 slice-aggregate-read-gr : tie.Need-slice-aggregate-read-gr
 slice-aggregate-read-gr c =
-    sym (length-take-le _ _ (rw (c .before .before .file .given .1) at (c .before .before .before .before .before .before .before .before .pre)))
+    sym (length-take-le _ _ (rw (c .before .before .file .given .1) at (c .before .before .before .before .before .before .before .before .before .pre)))
 
 returns-2 : tie.Need-returns-2
 unfolding graphLine graphSizes
 returns-2 c =
-    let e = ap (heldIn (c .before .before .before .before .before .before .before .before .before .before .before .before .before .before .before .before .before .before .before .before .before .before .before .args .text .now)) (c .before .before .before .before .before .before .before .before .before .before .before .before .before .before .before .before .before .file .given .1) in
-    let read = rw (c .before .before .before .reply .given .1) at (c .before .before .before .before .before .before .before .before .before .before .before .read-gr .ensures) in
+    let e = ap (heldIn (c .before .before .before .before .before .before .before .before .before .before .before .before .before .before .before .before .before .before .before .before .before .before .before .before .before .before .before .args .text .now)) (c .before .before .before .before .before .before .before .before .before .before .before .before .before .before .before .before .before .before .before .before .file .given .1) in
+    let read = rw (c .before .before .before .reply .given .1) at (c .before .before .before .before .before .before .before .before .before .before .before .before .before .read-gr .ensures) in
     (record { text = sizesLine _ _; says = ReadsGraph.file (graph.Read _ _) e read; puts = c .put-sizes .ensures .0 }, omega arith)
 
 returns-3 : tie.Need-returns-3
 unfolding graphLine graphSizes
 returns-3 c =
-    let e = ap (heldIn (c .before .before .before .before .before .before .before .before .before .before .before .before .before .before .before .before .before .before .before .before .before .before .before .args .text .now)) (c .before .before .before .before .before .before .before .before .before .before .before .before .before .before .before .before .before .file .given .1) in
-    let read = rw (c .before .before .before .reply2 .given .1) at (c .before .before .before .before .before .before .before .before .before .before .before .read-gr .ensures) in
+    let e = ap (heldIn (c .before .before .before .before .before .before .before .before .before .before .before .before .before .before .before .before .before .before .before .before .before .before .before .before .before .before .before .args .text .now)) (c .before .before .before .before .before .before .before .before .before .before .before .before .before .before .before .before .before .before .before .before .file .given .1) in
+    let read = rw (c .before .before .before .reply2 .given .1) at (c .before .before .before .before .before .before .before .before .before .before .before .before .before .read-gr .ensures) in
     (record { text = refusalLine _; says = ReadsGraph.file (graph.Refused _) e read; puts = c .put-refusal .ensures .0 }, omega arith)
 
 pub read-graph-spec : {M : Type 1} → statement M
@@ -42,7 +42,8 @@ read-graph-spec =
     returns
     slice-aggregate-read-gr
     (λ c κs. search needs) (λ c. search needs) (λ c κs. search needs) (λ c. search needs) (λ c. search needs)
-    (λ c. search needs)
+    (λ c. search needs) (λ c. search needs)
     returns-2
     (λ c. search needs) (λ c κs. search needs) (λ c. search needs) (λ c. search needs) (λ c. search needs)
+    (λ c. search needs)
     returns-3)

@@ -48,59 +48,54 @@ returns-10 c = rw (c .enum-told8 .given .1)
 
 returns-11 : tie.Need-returns-11
 unfolding asked
-returns-11 c = rw (c .before .before .before .before .enum-told9 .given .1) (sym (pair-are _ _ _ _ _ (c .before .before .before .read-pair .ensures) (c .before .arc .given .1)))
+returns-11 c = rw (c .before .enum-told9 .given .1) (c .update-of .ensures)
 
 returns-12 : tie.Need-returns-12
 unfolding asked
-returns-12 c = rw (c .before .before .before .before .enum-told9 .given .1) (sym (pair-not _ _ _ _ (c .before .before .before .read-pair .ensures) (c .before .fault3 .given .1)))
+returns-12 c = rw (c .before .before .before .before .enum-told10 .given .1) (sym (pair-are _ _ _ _ _ (c .before .before .before .read-pair .ensures) (c .before .s .given .1)))
 
 returns-13 : tie.Need-returns-13
 unfolding asked
-returns-13 c = rw (c .before .before .before .before .enum-told10 .given .1) (sym (pair-are _ _ _ _ _ (c .before .before .before .read-pair2 .ensures) (c .before .s .given .1)))
+returns-13 c = rw (c .before .before .before .before .enum-told10 .given .1) (sym (pair-not _ _ _ _ (c .before .before .before .read-pair .ensures) (c .before .fault3 .given .1)))
 
 returns-14 : tie.Need-returns-14
 unfolding asked
-returns-14 c = rw (c .before .before .before .before .enum-told10 .given .1) (sym (pair-not _ _ _ _ (c .before .before .before .read-pair2 .ensures) (c .before .fault4 .given .1)))
+returns-14 c = rw (c .before .before .before .before .enum-told11 .given .1) (sym (pair-are _ _ _ _ _ (c .before .before .before .read-pair2 .ensures) (c .before .s2 .given .1)))
 
 returns-15 : tie.Need-returns-15
 unfolding asked
-returns-15 c = rw (c .before .before .before .before .enum-told11 .given .1) (sym (pair-are _ _ _ _ _ (c .before .before .before .read-pair3 .ensures) (c .before .s2 .given .1)))
+returns-15 c = rw (c .before .before .before .before .enum-told11 .given .1) (sym (pair-not _ _ _ _ (c .before .before .before .read-pair2 .ensures) (c .before .fault4 .given .1)))
 
 returns-16 : tie.Need-returns-16
 unfolding asked
-returns-16 c = rw (c .before .before .before .before .enum-told11 .given .1) (sym (pair-not _ _ _ _ (c .before .before .before .read-pair3 .ensures) (c .before .fault5 .given .1)))
+returns-16 c = rw (c .before .verb .given .1)
 
 returns-17 : tie.Need-returns-17
 unfolding asked
-returns-17 c = rw (c .before .verb .given .1)
+returns-17 c = rw (c .before .verb2 .given .1)
 
 returns-18 : tie.Need-returns-18
 unfolding asked
-returns-18 c = rw (c .before .verb2 .given .1)
+returns-18 c = rw (c .enum-told12 .given .1)
 
 returns-19 : tie.Need-returns-19
 unfolding asked
-returns-19 c = rw (c .enum-told12 .given .1)
+returns-19 c = rw (c .enum-told13 .given .1)
 
 returns-20 : tie.Need-returns-20
 unfolding asked
-returns-20 c = rw (c .enum-told13 .given .1)
-
-returns-21 : tie.Need-returns-21
-unfolding asked
-returns-21 c = rw (c .enum-told14 .given .1)
+returns-20 c = rw (c .enum-told14 .given .1)
 
 pub ask-spec : {M : Type 1} → statement M
 ask-spec =
     tie.close
     (tie.spec
-    (λ c. search needs) (λ c κs. search needs) (λ c κs. search needs) (λ c. search needs) (λ c. search needs)
-    (λ c. search needs) (λ c κs. search needs) (λ c κs. search needs) (λ c. search needs) (λ c. search needs)
-    (λ c. search needs) (λ c κs. search needs) (λ c. search needs) (λ c κs. search needs) (λ c. search needs)
-    (λ c. search needs) (λ c. search needs) (λ c. search needs) (λ c. search needs) (λ c κs. search needs) (λ c. search needs)
-    (λ c. search needs) (λ c. search needs) (λ c κs. search needs) (λ c. search needs) (λ c. search needs) (λ c. search needs)
-    (λ c κs. search needs) (λ c. search needs) (λ c. search needs) (λ c. search needs) (λ c. search needs) (λ c. search needs)
-    (λ c. search needs) (λ c. search needs)
+    (λ c. search needs) (λ c κs. search needs) (λ c κs. search needs) (λ c. search needs) (λ c. search needs) (λ c. search needs)
+    (λ c κs. search needs) (λ c κs. search needs) (λ c. search needs) (λ c. search needs) (λ c. search needs) (λ c κs. search needs)
+    (λ c. search needs) (λ c κs. search needs) (λ c. search needs) (λ c. search needs) (λ c. search needs) (λ c. search needs)
+    (λ c. search needs) (λ c κs. search needs) (λ c. search needs) (λ c κs. search needs) (λ c. search needs) (λ c. search needs)
+    (λ c. search needs) (λ c κs. search needs) (λ c. search needs) (λ c. search needs) (λ c. search needs) (λ c. search needs)
+    (λ c. search needs) (λ c. search needs) (λ c. search needs)
     returns
     returns-2
     returns-3
@@ -120,5 +115,4 @@ ask-spec =
     returns-17
     returns-18
     returns-19
-    returns-20
-    returns-21)
+    returns-20)

@@ -26,4 +26,5 @@ row-of-spec =
     (λ c. named names Unknown (c .before .place-of .ensures) (c .match .keys6))
     (λ c. named names Unknown (c .before .place-of .ensures) (c .match .keys7))
     (λ c. named names Unknown (c .before .place-of .ensures) (c .match .keys8))
+    (λ c. named names Unknown (c .before .place-of .ensures) (c .match .keys9))
     (λ c. unnamed names Unknown (c .before .place-of .ensures) (c .match .rest)))

@@ -17,14 +17,14 @@ use Rattle.drawing.proofs.compare.find_miss.Statement.{statement}
 use Rattle.drawing.proofs.compare.find_miss.Tie as tie
 
 abbrev Inv-loop : tie.InvT-loop
-Inv-loop n m tails heads weights x y boxes first next marked₀ below₀ node₀ t₀ marked below node t =
-    (t ≤ n) × (length marked ≡ 2048) × Lower (missesNode (rows tails heads weights) n m boxes x y) m t below node
+Inv-loop n m tails heads weights closures x y boxes first next marked₀ below₀ node₀ t₀ marked below node t =
+    (t ≤ n) × (length marked ≡ 2048) × Lower (missesNode (rows tails heads weights closures) n m boxes x y) m t below node
 
 abbrev μ-loop : tie.MeasureT-loop
-μ-loop n m tails heads weights x y boxes first next marked₀ below₀ node₀ t₀ marked below node t = n - t
+μ-loop n m tails heads weights closures x y boxes first next marked₀ below₀ node₀ t₀ marked below node t = n - t
 
 link-requires : tie.Need-link-requires Inv-loop μ-loop
-link-requires c κs = (heads-ends (c .before .before .before .before .before .pre .0), refl, length-replicate {A = ℕ} 2048 0)
+link-requires c κs = (heads-ends (c .before .before .before .before .before .before .pre .0), refl, length-replicate {A = ℕ} 2048 0)
 
 loop-holds : tie.Need-loop-holds Inv-loop μ-loop
 loop-holds c = (omega arith, length-replicate {A = Bool} 2048 false, lower-none _)
@@ -32,19 +32,19 @@ loop-holds c = (omega arith, length-replicate {A = Bool} 2048 false, lower-none 
 mark-toward-requires : tie.Need-mark-toward-requires Inv-loop μ-loop
 mark-toward-requires c κs =
     let l = c .before .before .before .before .loop in
-    (omega arith, omega arith, l .inv .2 .most, c .before .before .before .before .before .before .before .before .before .before .before .pre .0, c .before .before .before .before .before .link .ensures, l .inv .1)
+    (omega arith, omega arith, l .inv .2 .most, c .before .before .before .before .before .before .before .before .before .before .before .before .pre .0, c .before .before .before .before .before .link .ensures, l .inv .1)
 
 before-miss-requires : tie.Need-before-miss-requires Inv-loop μ-loop
 before-miss-requires c κs =
     let most = c .before .before .before .before .before .before .before .before .loop .inv .2 .most in
-    let high = c .before .before .before .before .before .before .before .before .before .before .before .before .before .before .before .pre .0 .arcs-high in
+    let high = c .before .before .before .before .before .before .before .before .before .before .before .before .before .before .before .before .pre .0 .arcs-high in
     (omega arith, omega arith)
 
 loop-again : tie.Need-loop-again Inv-loop μ-loop
 loop-again c =
-    let a = c .before .before .before .before .before .before .before .before .before .before .before .before .before .before .before .before .before .args in
+    let a = c .before .before .before .before .before .before .before .before .before .before .before .before .before .before .before .before .before .before .args in
     let l = c .before .before .before .before .before .before .before .before .before .before .loop in
-    let R = rows (a .tails .now) (a .heads .now) (a .weights .now) in
+    let R = rows (a .tails .now) (a .heads .now) (a .weights .now) (a .closures .now) in
     let px = back (number (a .x .now) (l .t)) (c .before .before .before .before-miss-arg .given) in
     let py = back (number (a .y .now) (l .t)) (c .before .before .before-miss-arg2 .given) in
     let marks = c .before .before .before .before .before .mark-toward .ensures in
@@ -58,19 +58,19 @@ loop-again c =
           (c .if1 .came),
     )
 
-cast-t35 : tie.Need-cast-t35 Inv-loop μ-loop
-cast-t35 c = let h = c .before .before .loop .inv .2 .node-high (c .if2 .taken) in omega arith
+cast-t36 : tie.Need-cast-t36 Inv-loop μ-loop
+cast-t36 c = let h = c .before .before .loop .inv .2 .node-high (c .if2 .taken) in omega arith
 
 returns : tie.Need-returns Inv-loop μ-loop
 returns c =
     let l = c .before .before .loop in
-    let last : l .t ≡ c .before .before .before .before .before .before .before .before .before .args .n = omega arith in
+    let last : l .t ≡ c .before .before .before .before .before .before .before .before .before .before .args .n = omega arith in
     lower-found (rw last at (l .inv .2)) (c .if2 .taken)
 
 returns-2 : tie.Need-returns-2 Inv-loop μ-loop
 returns-2 c =
     let l = c .before .before .loop in
-    let last : l .t ≡ c .before .before .before .before .before .before .before .before .before .args .n = omega arith in
+    let last : l .t ≡ c .before .before .before .before .before .before .before .before .before .before .args .n = omega arith in
     lower-nowhere (rw last at (l .inv .2)) (c .if2 .left)
 
 pub find-miss-spec : {M : Type 1} → statement M
@@ -89,6 +89,6 @@ find-miss-spec =
     (λ c. search needs) (λ c. search needs) (λ c. search needs)
     loop-again
     (λ c. search needs) (λ c. search needs)
-    cast-t35
+    cast-t36
     returns
     returns-2)

@@ -11,13 +11,13 @@ use Rattle.drawing.proofs.mark.mark_toward.Tie as tie
 
 label-all-requires : tie.Need-label-all-requires
 label-all-requires c κs =
-    let p = c .before .before .before .pre in
+    let p = c .before .before .before .before .pre in
     let turned = turned-sound (p .3) in
     (p .0, p .1, search needs, p .4)
 
 mark-arcs-requires : tie.Need-mark-arcs-requires
 mark-arcs-requires c κs =
-    let p = c .before .before .before .before .before .before .before .pre in (widened (first-arcs (p .3) _ (p .2)), p .5)
+    let p = c .before .before .before .before .before .before .before .before .pre in (widened (first-arcs (p .3) _ (p .2)), p .5)
 
 returns : tie.Need-returns
 unfolding lengthsTo

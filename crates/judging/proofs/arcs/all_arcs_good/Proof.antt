@@ -4,7 +4,7 @@ use mathlib.Core.Path.{_≡_, sym, ap, _∙_}
 use native.Mathlib.Omega.{arith}
 use Rattle.rules.specs.Judging.{isFine}
 use Rattle.rules.proofs.JudgingLaws.{each-none, each-joined}
-use Rattle.walks.specs.Rows.{rows}
+use Rattle.walks.specs.Rows.{openRows}
 use Rattle.judging.specs.Order.{arcs}
 use Rattle.judging.proofs.NextLaws.{arc-next}
 use borrow.Author.Needs.{needs}
@@ -12,7 +12,7 @@ use Rattle.judging.proofs.arcs.all_arcs_good.Statement.{statement}
 use Rattle.judging.proofs.arcs.all_arcs_good.Tie as tie
 
 abbrev Inv-loop : tie.InvT-loop
-Inv-loop n m tails heads weights places good₀ i₀ good i = (i ≤ m) × (good ≡ isFine (arcs n i (rows tails heads weights)))
+Inv-loop n m tails heads weights places good₀ i₀ good i = (i ≤ m) × (good ≡ isFine (arcs n i (openRows tails heads weights)))
 
 abbrev μ-loop : tie.MeasureT-loop
 μ-loop n m tails heads weights places good₀ i₀ good i = m - i
@@ -23,7 +23,7 @@ loop-holds c = (omega arith, sym (ap isFine (each-none _ _)))
 loop-again : tie.Need-loop-again Inv-loop μ-loop
 loop-again c =
     let a = c .before .before .before .before .before .before .before .before .before .args in
-    let R = rows (a .tails .now) (a .heads .now) (a .weights .now) in
+    let R = openRows (a .tails .now) (a .heads .now) (a .weights .now) in
     let l = c .before .before .before .before .before .loop in
     (omega arith, each-joined _ _ (l .i) (l .inv .1) (c .good-arc .ensures ∙ arc-next (a .n) R (l .i)))
 

@@ -5,7 +5,7 @@ use native.Mathlib.Omega.{arith}
 use borrow.Author.Tests.{not-true, not-false}
 use Rattle.rules.specs.declared.Judged.the-variants.{Fine}
 use Rattle.rules.proofs.JudgingLaws.{is-fine, each-none, each-more, each-first}
-use Rattle.walks.specs.Rows.{rows}
+use Rattle.walks.specs.Rows.{openRows}
 use Rattle.judging.specs.Order.{arcs}
 use Rattle.judging.proofs.NextLaws.{arc-next}
 use borrow.Author.Needs.{needs}
@@ -13,7 +13,7 @@ use Rattle.judging.proofs.arcs.judge_arcs.Statement.{statement}
 use Rattle.judging.proofs.arcs.judge_arcs.Tie as tie
 
 abbrev Inv-loop : tie.InvT-loop
-Inv-loop n m tails heads weights places at₀ at = (at ≤ m) × (arcs n at (rows tails heads weights) ≡ Fine)
+Inv-loop n m tails heads weights places at₀ at = (at ≤ m) × (arcs n at (openRows tails heads weights) ≡ Fine)
 
 abbrev μ-loop : tie.MeasureT-loop
 μ-loop n m tails heads weights places at₀ at = m - at
@@ -27,7 +27,7 @@ loop-holds c = (omega arith, each-none _ _)
 returns-2 : tie.Need-returns-2 Inv-loop μ-loop
 returns-2 c =
     let a = c .before .before .before .before .before .before .before .before .before .before .before .before .args in
-    let R = rows (a .tails .now) (a .heads .now) (a .weights .now) in
+    let R = openRows (a .tails .now) (a .heads .now) (a .weights .now) in
     let l = c .before .before .before .before .before .before .loop in
     let bad = sym (c .before .good-arc .ensures) ∙ not-true _ (c .if2 .taken) in
     sym (each-first _ _ (l .at) (a .m) (l .inv .1) (sym (arc-next (a .n) R (l .at)) ∙ bad) (omega arith))
@@ -35,7 +35,7 @@ returns-2 c =
 loop-again : tie.Need-loop-again Inv-loop μ-loop
 loop-again c =
     let a = c .before .before .before .before .before .before .before .before .before .before .before .before .args in
-    let R = rows (a .tails .now) (a .heads .now) (a .weights .now) in
+    let R = openRows (a .tails .now) (a .heads .now) (a .weights .now) in
     let l = c .before .before .before .before .before .before .loop in
     let good = sym (c .before .good-arc .ensures) ∙ not-false _ (c .if2 .left) in
     (omega arith, each-more _ _ (l .at) (l .inv .1) (sym (arc-next (a .n) R (l .at)) ∙ good))

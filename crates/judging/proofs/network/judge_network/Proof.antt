@@ -1,43 +1,38 @@
--- `judging::network::judge_network` meets its contract: each refusal is handed on as it came.
+-- `judging::network::judge_network` meets its contract: a refusal is handed on as it came.
 use mathlib.Core.Path.{_≡_, sym, _∙_}
-use mathlib.Core.Bool.{Bool, _&&_}
-use Rattle.rules.proofs.AndLaws.{and-true}
-use Rattle.rules.proofs.JudgingLaws.{refusal-decides, rest-decides, nothing-follows, passed}
-use Rattle.rules.specs.declared.Judged.{Judged}
+use mathlib.Core.Bool.{_&&_}
+use lib.ListN.{length}
+use lib.Dec.{leb}
+use Rattle.rules.proofs.JudgingLaws.{refusal-decides, rest-decides, nothing-follows}
 use Rattle.walks.specs.Rows.{rows}
-use Rattle.judging.specs.Order.{arcRowsLong, lengths, networkJudged}
-use Rattle.judging.proofs.StageLaws.{long-arcs}
+use Rattle.judging.specs.Order.{arcsJudged, networkJudged}
+use Rattle.judging.proofs.StageLaws.{closed-fine}
 use borrow.Author.Needs.{needs}
 use Rattle.judging.proofs.network.judge_network.Statement.{statement}
 use Rattle.judging.proofs.network.judge_network.Tie as tie
 
--- the lengths are judged by the test that the code asked
-asked : {j : Judged} {long arcs : Bool} (others : Bool) → j ≡ lengths (long && others) → long ≡ arcs → j ≡ lengths (arcs && others)
-asked others e h = rw h at e
+-- the arcs are judged as they are beside the closures
+told : (c : tie.After-judge-arc-rows) →
+    let a = c .before .before .before .before .before .args in
+    c .judge-arc-rows .result ≡ arcsJudged (a .n) (a .m) (rows (a .tails .now) (a .heads .now) (a .weights .now) (a .closures .now)) (leb (a .m) (length (a .closures .now)) && a .others)
+unfolding arcsJudged
+told c = c .judge-arc-rows .ensures
 
 returns : tie.Need-returns
 unfolding networkJudged
-returns c = refusal-decides _ (c .before .before .judge-sizes .ensures) (c .enum-told2 .given .1)
+returns c = refusal-decides _ (told (c .before .before)) (c .enum-told2 .given .1)
+
+judge-closures-requires : tie.Need-judge-closures-requires
+judge-closures-requires c κs =
+    let a = c .before .before .before .before .before .before .before .args in
+    let s = closed-fine (a .n) (a .m) _ (a .others) (sym (told (c .before .before)) ∙ c .enum-told .given .1) .0 in
+    (s .arcs-high, s .closures-long)
 
 returns-2 : tie.Need-returns-2
 unfolding networkJudged
 returns-2 c =
-    rest-decides (c .before .before .before .before .before .before .judge-sizes .ensures) (c .before .before .before .before .enum-told .given .1)
-    (refusal-decides _ (asked _ (c .before .before .judge-lengths .ensures) (c .before .before .before .arc-rows-long .ensures)) (c .enum-told4 .given .1))
-
-judge-arcs-requires : tie.Need-judge-arcs-requires
-judge-arcs-requires c κs =
-    let a = c .before .before .before .before .before .before .before .before .before .before .args in
-    let R = rows (a .tails .now) (a .heads .now) (a .weights .now) in
-    let fine = sym (asked (a .others) (c .before .before .judge-lengths .ensures) (c .before .before .before .arc-rows-long .ensures)) ∙ c .enum-told3 .given .1 in
-    long-arcs (a .m) R (and-true (arcRowsLong (a .m) R) (a .others) (passed _ _ fine) .0)
-
-returns-3 : tie.Need-returns-3
-unfolding networkJudged
-returns-3 c =
-    rest-decides (c .before .before .before .before .before .before .before .judge-sizes .ensures) (c .before .before .before .before .before .enum-told .given .1)
-    (rest-decides (asked _ (c .before .before .before .judge-lengths .ensures) (c .before .before .before .before .arc-rows-long .ensures)) (c .before .enum-told3 .given .1)
-    (c .judge-arcs .ensures ∙ sym (nothing-follows _)))
+    rest-decides (told (c .before .before .before)) (c .before .enum-told .given .1)
+    (c .judge-closures .ensures ∙ sym (nothing-follows _))
 
 pub judge-network-spec : {M : Type 1} → statement M
 judge-network-spec =
@@ -45,7 +40,5 @@ judge-network-spec =
     (tie.spec
     (λ c κs. search needs) (λ c. search needs) (λ c. search needs)
     returns
-    (λ c κs. search needs) (λ c κs. search needs) (λ c. search needs) (λ c. search needs)
-    returns-2
-    judge-arcs-requires
-    returns-3)
+    judge-closures-requires
+    returns-2)

@@ -4,7 +4,7 @@ use mathlib.Core.Bool.{_&&_}
 use Rattle.rules.proofs.AndLaws.{and-true}
 use Rattle.rules.proofs.JudgingLaws.{refusal-decides, rest-decides, nothing-follows}
 use Rattle.walks.specs.Rows.{rows}
-use Rattle.judging.specs.Order.{boxRowsLong, networkJudged, placedJudged}
+use Rattle.judging.specs.Order.{boxRowsLong, networkJudged, placedBy}
 use Rattle.judging.proofs.StageLaws.{network-fine, long-boxes}
 use borrow.Author.Needs.{needs}
 use Rattle.judging.proofs.network.judge_placed.Statement.{statement}
@@ -12,24 +12,24 @@ use Rattle.judging.proofs.network.judge_placed.Tie as tie
 
 -- the network is judged with the test of the other rows
 told : (c : tie.After-judge-network) →
-    let a = c .before .before .before .before .before .args in
+    let a = c .before .before .before .before .before .before .args in
     let long = boxRowsLong (a .n) (a .m) (a .x .now) (a .y .now) (a .boxes .now) in
-    c .judge-network .result ≡ networkJudged (a .n) (a .m) (rows (a .tails .now) (a .heads .now) (a .weights .now)) (long && a .others)
+    c .judge-network .result ≡ networkJudged (a .n) (a .m) (rows (a .tails .now) (a .heads .now) (a .weights .now) (a .closures .now)) (long && a .others)
 told c = rw (c .before .box-rows-long .ensures) at (c .judge-network .ensures)
 
 returns : tie.Need-returns
-unfolding placedJudged
+unfolding placedBy
 returns c = refusal-decides _ (told (c .before .before)) (c .enum-told2 .given .1)
 
 judge-places-requires : tie.Need-judge-places-requires
 judge-places-requires c κs =
-    let a = c .before .before .before .before .before .before .before .args in
+    let a = c .before .before .before .before .before .before .before .before .args in
     let f = network-fine (a .n) (a .m) _ _ (sym (told (c .before .before)) ∙ c .enum-told .given .1) in
     let l = long-boxes (a .n) (a .m) (a .x .now) (a .y .now) (a .boxes .now) (and-true _ (a .others) (f .1) .0) in
     (f .0 .nodes-high, l .0, l .1)
 
 returns-2 : tie.Need-returns-2
-unfolding placedJudged
+unfolding placedBy
 returns-2 c =
     rest-decides (told (c .before .before .before)) (c .before .enum-told .given .1)
     (c .judge-places .ensures ∙ sym (nothing-follows _))

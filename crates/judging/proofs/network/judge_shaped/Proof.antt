@@ -1,14 +1,14 @@
 -- `judging::network::judge_shaped` meets its contract: a refusal is handed on as it came.
 use mathlib.Core.Path.{sym, _∙_}
 use Rattle.rules.proofs.JudgingLaws.{refusal-decides, rest-decides, nothing-follows}
-use Rattle.judging.specs.Order.{shapedJudged}
+use Rattle.judging.specs.Order.{shapedBy}
 use Rattle.judging.proofs.StageLaws.{placed-fine}
 use borrow.Author.Needs.{needs}
 use Rattle.judging.proofs.network.judge_shaped.Statement.{statement}
 use Rattle.judging.proofs.network.judge_shaped.Tie as tie
 
 returns : tie.Need-returns
-unfolding shapedJudged
+unfolding shapedBy
 returns c = refusal-decides _ (c .before .before .judge-placed .ensures) (c .enum-told2 .given .1)
 
 judge-boxes-requires : tie.Need-judge-boxes-requires
@@ -17,7 +17,7 @@ judge-boxes-requires c κs =
     (l .sound .arcs-high, l .boxes-long)
 
 returns-2 : tie.Need-returns-2
-unfolding shapedJudged
+unfolding shapedBy
 returns-2 c =
     rest-decides (c .before .before .before .judge-placed .ensures) (c .before .enum-told .given .1)
     (c .judge-boxes .ensures ∙ sym (nothing-follows _))

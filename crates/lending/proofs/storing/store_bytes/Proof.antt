@@ -5,9 +5,10 @@ use Rattle.commands.specs.declared.rows.Kind.the-variants.{Bytes}
 use native.Mathlib.Omega.{arith}
 use lib.ListN.{length}
 use Rattle.commands.specs.Commands.{byte}
+use Rattle.commands.proofs.NumberLaws.{byte-small}
 use Rattle.lending.specs.Lending.{countIn}
 use Rattle.lending.proofs.StoreLaws.{Storing, storing-start, storing-more, storing-end, word-ahead, judged-here, all-passed}
-use Rattle.lending.proofs.JudgedLaws.{byte-read, byte-value, byte-small}
+use Rattle.lending.proofs.JudgedLaws.{byte-read, byte-value}
 use borrow.Author.Needs.{needs}
 use Rattle.lending.proofs.storing.store_bytes.Statement.{statement}
 use Rattle.lending.proofs.storing.store_bytes.Tie as tie
