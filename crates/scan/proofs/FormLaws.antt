@@ -108,7 +108,7 @@ same-is (b ∷ s) (c ∷ t) e =
 
 -- a field of the form read off the line: the line's field, and what the later ones hold
 module _ (p : List ℕ) (ps : List (List ℕ)) (c : ℕ) (full : Numbers) where
-  matched-step : (fs : List (List ℕ)) → matched (p ∷ ps) c fs ≡ Read full
+  pub matched-step : (fs : List (List ℕ)) → matched (p ∷ ps) c fs ≡ Read full
       → (f : List ℕ) × (gs : List (List ℕ)) × (v : Value) × (ms : Numbers) × (fs ≡ f ∷ gs) × (taken p f ≡ Taken v) × (matched ps (c + (length f + 1)) gs ≡ Read ms) × (before v ms ≡ full)
   unfolding matched
   matched-step [] e = absurd (let z : _≡_ {A = ℕ} 0 1 = cc in omega arith)
