@@ -127,7 +127,7 @@ pub record Forms (problem rows : List ℕ) : Type 0 where
   pub rows-word : Lettered rows
   pub problem-some : 0 < length (firstField problem)
   pub rows-some : 0 < length (firstField rows)
-  pub apart : sameBytes (firstField rows) (firstField problem) ≡ false
+  pub apart : sameBytes (firstField problem) (firstField rows) ≡ false
 
 word-taken : (form s : List ℕ) → Lettered form → sameBytes (firstField s) (firstField form) ≡ true → taken (firstField form) (firstField s) ≡ Taken Word
 unfolding taken
@@ -182,12 +182,12 @@ module _ (problem rows s : List ℕ) where
       by-tests (eqb (length s) 0) (isComment s) (sameBytes (firstField s) (firstField problem)) (sameBytes (firstField s) (firstField rows)) refl refl refl e
     where
       by-tests : (a b c d : Bool) → eqb (length s) 0 ≡ a → sameBytes (firstField s) (firstField problem) ≡ c → sameBytes (firstField s) (firstField rows) ≡ d
-          → cond a (faulty EmptyLine) (cond b Comment (cond c (problemLine (matched (fieldsOf problem) 1 (fieldsOf s))) (cond d (dataLine (matched (fieldsOf rows) 1 (fieldsOf s))) (faulty NoLetter)))) ≡ Faulty x
+          → cond a (faulty EmptyLine) (cond b Comment (cond d (dataLine (matched (fieldsOf rows) 1 (fieldsOf s))) (cond c (problemLine (matched (fieldsOf problem) 1 (fieldsOf s))) (faulty NoLetter)))) ≡ Faulty x
           → Seen s x
       by-tests true b c d p q r e = subst (Seen s) (faulty-is _ x e) (eqb-true _ _ p, refl)
       by-tests false true c d p q r e = absurd (let z : _≡_ {A = ℕ} 0 1 = cc in omega arith)
-      by-tests false false true d p q r e = form-seen problem s x (w .problem-word) q (problem-faulty _ x e)
-      by-tests false false false true p q r e = form-seen rows s x (w .rows-word) r (data-faulty _ x e)
+      by-tests false false true false p q r e = form-seen problem s x (w .problem-word) q (problem-faulty _ x e)
+      by-tests false false c true p q r e = form-seen rows s x (w .rows-word) r (data-faulty _ x e)
       by-tests false false false false p q r e = subst (Seen s) (faulty-is _ x e) (some s p, refl)
 
   -- a line without a form has a fault
@@ -197,13 +197,13 @@ module _ (problem rows s : List ℕ) where
       by-tests (eqb (length s) 0) (isComment s) (sameBytes (firstField s) (firstField problem)) (sameBytes (firstField s) (firstField rows)) refl (matched (fieldsOf problem) 1 (fieldsOf s)) refl (matched (fieldsOf rows) 1 (fieldsOf s)) refl
     where
       by-tests : (a b c d : Bool) → isComment s ≡ b → (f : Fields) → matched (fieldsOf problem) 1 (fieldsOf s) ≡ f → (g : Fields) → matched (fieldsOf rows) 1 (fieldsOf s) ≡ g
-          → HasFault (cond a (faulty EmptyLine) (cond b Comment (cond c (problemLine f) (cond d (dataLine g) (faulty NoLetter)))))
+          → HasFault (cond a (faulty EmptyLine) (cond b Comment (cond d (dataLine g) (cond c (problemLine f) (faulty NoLetter)))))
       by-tests true b c d p f q g r = (_, refl)
       by-tests false true c d p f q g r = absurd (no-form (comment p))
-      by-tests false false true d p (Read ns) q g r = absurd (no-form (problem-line (read-fits _ _ 1 ns q)))
-      by-tests false false true d p (Unread x) q g r = (x, refl)
-      by-tests false false false true p f q (Read ns) r = absurd (no-form (data-line (read-fits _ _ 1 ns r)))
-      by-tests false false false true p f q (Unread x) r = (x, refl)
+      by-tests false false true false p (Read ns) q g r = absurd (no-form (problem-line (read-fits _ _ 1 ns q)))
+      by-tests false false true false p (Unread x) q g r = (x, refl)
+      by-tests false false c true p f q (Read ns) r = absurd (no-form (data-line (read-fits _ _ 1 ns r)))
+      by-tests false false c true p f q (Unread x) r = (x, refl)
       by-tests false false false false p f q g r = (_, refl)
 
   -- a line with a form has none
@@ -218,7 +218,7 @@ module _ (problem rows s : List ℕ) where
     unfolding lineOf
     no-problem ns m =
         let first = read-first problem s ns (w .problem-word) m in
-        by-comment (isComment s) (rw (not-empty s _ first (w .problem-some), ap (λ (l : List ℕ). sameBytes l (firstField problem)) first ∙ same-self (firstField problem), m) at e)
+        by-comment (isComment s) (rw (not-empty s _ first (w .problem-some), ap (λ (l : List ℕ). sameBytes l (firstField rows)) first ∙ w .apart, ap (λ (l : List ℕ). sameBytes l (firstField problem)) first ∙ same-self (firstField problem), m) at e)
       where
         by-comment : (b : Bool) → cond b Comment (Problem ns) ≡ Faulty x → ⊥
         by-comment true e = let z : _≡_ {A = ℕ} 0 1 = cc in omega arith
@@ -228,7 +228,7 @@ module _ (problem rows s : List ℕ) where
     unfolding lineOf
     no-data ns m =
         let first = read-first rows s ns (w .rows-word) m in
-        by-comment (isComment s) (rw (not-empty s _ first (w .rows-some), ap (λ (l : List ℕ). sameBytes l (firstField problem)) first ∙ w .apart, ap (λ (l : List ℕ). sameBytes l (firstField rows)) first ∙ same-self (firstField rows), m) at e)
+        by-comment (isComment s) (rw (not-empty s _ first (w .rows-some), ap (λ (l : List ℕ). sameBytes l (firstField rows)) first ∙ same-self (firstField rows), m) at e)
       where
         by-comment : (b : Bool) → cond b Comment (Data ns) ≡ Faulty x → ⊥
         by-comment true e = let z : _≡_ {A = ℕ} 0 1 = cc in omega arith

@@ -36,6 +36,6 @@ unfoldable pub lineOf : List ℕ → List ℕ → List ℕ → Line
 lineOf problem rows s =
     cond (eqb (length s) 0) (faulty EmptyLine)
     (cond (isComment s) Comment
-    (cond (sameBytes (firstField s) (firstField problem)) (problemLine (matched (fieldsOf problem) 1 (fieldsOf s)))
     (cond (sameBytes (firstField s) (firstField rows)) (dataLine (matched (fieldsOf rows) 1 (fieldsOf s)))
+    (cond (sameBytes (firstField s) (firstField problem)) (problemLine (matched (fieldsOf problem) 1 (fieldsOf s)))
     (faulty NoLetter))))
