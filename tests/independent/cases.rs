@@ -6,7 +6,7 @@ use crate::lent::Lent;
 use crate::plans::{add_surplus, ask, change_boxes, plan, some_bytes, spoil, Asked};
 use crate::random::Random;
 use crate::sizes::{NODES, WEIGHT};
-use crate::texts::{co_text, damage, gr_text};
+use crate::texts::{co_text, damage, gr_text, with_slips};
 use crate::writing::{write_co, write_gr};
 
 /// The files that are there, and the lines that are typed. A file whose name ends in `/` is a folder.
@@ -89,11 +89,12 @@ fn some_calls(random: &mut Random, asked: &Asked, count: usize) -> Vec<String> {
 
 /// A small case of any kind. `name` is for its files.
 pub fn small(random: &mut Random, name: &str) -> Case {
-    match random.below(12) {
-        0 | 1 => text_case(random, name),
-        2 => talk_case(random),
-        3 | 4 => write_case(random, name),
-        5 | 6 => update_case(random),
+    match random.below(24) {
+        0..=2 => text_case(random, name),
+        3..=5 => slip_case(random, name),
+        6 | 7 => talk_case(random),
+        8..=10 => write_case(random, name),
+        11..=14 => update_case(random),
         _ => call_case(random),
     }
 }
@@ -203,6 +204,32 @@ pub fn text_case(random: &mut Random, name: &str) -> Case {
     case
 }
 
+/// The texts of a small plan, typed well and then with slips of the hand and perhaps something else wrong.
+/// What was read first is kept where the second text is refused.
+fn slip_case(random: &mut Random, name: &str) -> Case {
+    let (n, m) = (random.between(1, 6), random.between(0, 8));
+    let plan = plan(random, n, m);
+    let mut case = Case::default();
+    case.say("fresh");
+    for (kind, text) in [("gr", gr_text(random, &plan)), ("co", co_text(random, &plan))] {
+        let mut slipped = with_slips(random, &text);
+        if random.once_in(4) {
+            slipped = damage(random, &slipped);
+        }
+        for (file, text) in [(format!("{name}.{kind}"), text), (format!("{name}-typed.{kind}"), slipped)] {
+            case.say(format!("{kind} {file}"));
+            case.file(file, text);
+        }
+    }
+    for row in ["tails", "heads", "weights"] {
+        case.say(format!("show {row} {}", m + 3));
+    }
+    for row in ["x", "y"] {
+        case.say(format!("show {row} {}", n + 3));
+    }
+    case
+}
+
 /// How long the texts of a plan are that is within the limits.
 fn text_lengths(lent: &Lent) -> [i64; 2] {
     let mut roomy = Lent { text: vec![0; 40_960], ..lent.clone() };
@@ -307,14 +334,15 @@ fn talk_case(random: &mut Random) -> Case {
     case
 }
 
-/// The files for the program `boxes`: a pair, damaged or not, or with one lacking or a folder.
+/// The files for the program `boxes`: a pair, damaged, typed with slips or neither, or with one lacking or a folder.
 pub fn boxes_case(random: &mut Random) -> Case {
     let (n, m) = (random.between(1, 6), random.between(0, 9));
     let plan = plan(random, n, m);
     let mut texts = [("net.gr", gr_text(random, &plan)), ("net.co", co_text(random, &plan))];
+    let slips = random.once_in(2);
     for _ in 0..random.pick(&[0, 0, 1, 1, 2]) {
         let text = &mut texts[random.below(2)].1;
-        *text = damage(random, text);
+        *text = if slips { with_slips(random, text) } else { damage(random, text) };
     }
     let mut case = Case::default();
     for (name, text) in texts {

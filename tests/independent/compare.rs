@@ -1,9 +1,10 @@
 //! The comparison: what two programs write for many cases, beside what 01 and 02 demand.
 
 use crate::cases::{boxes_case, small, Case};
+use crate::columns::told_case;
 use crate::files::listing;
 use crate::hall;
-use crate::limits::{limit_case, limit_texts, limit_writing, streams};
+use crate::limits::{limit_case, limit_slips, limit_texts, limit_writing, streams};
 use crate::random::Random;
 use crate::scratch::Scratch;
 use crate::shrink::{shrunk, told};
@@ -234,7 +235,8 @@ fn all_agree(
     if comparison.next_is_mine() {
         answers_at_once(console, &comparison.scratch)?;
     }
-    comparison.tell("cases of the hall plan");
+    comparison.compare(console, &[told_case()])?;
+    comparison.tell("cases of the hall plan and of lines with slips");
     let mut left = count;
     while left > 0 {
         let batch = left.min(BATCH);
@@ -252,6 +254,7 @@ fn all_agree(
     }
     comparison.compare(console, &[limit_texts(random, "limit")])?;
     comparison.compare(console, &[limit_writing()])?;
+    comparison.compare(console, &[limit_slips()])?;
     comparison.tell("cases at the limits");
     for _ in 0..count / SMALL_PER_BOXES {
         comparison.compare(boxes, &[boxes_case(random)])?;

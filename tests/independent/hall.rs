@@ -56,11 +56,11 @@ pub const TALK: [(&str, &str); 40] = [
     ("search 1 3", "ok 5 1 3 3"),
     // The refused lines of texts.
     ("fresh", "ok"),
-    ("gr minus.gr", "refused 3 2 (line 2 is not spelt like a line of this kind of file)"),
+    ("gr minus.gr", "refused 16 2 7 (line 2, column 7: the field is misspelt)"),
     ("gr heavy.gr", "refused 5 2 (a number in line 2 is beyond its limits)"),
     ("n 4", "ok"),
     ("co zero.co", "refused 5 2 (a number in line 2 is beyond its limits)"),
-    ("co seven.co", "refused 3 2 (line 2 is not spelt like a line of this kind of file)"),
+    ("co seven.co", "refused 16 2 5 (line 2, column 5: the field is misspelt)"),
     ("help", HELP),
 ];
 

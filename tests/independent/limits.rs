@@ -5,7 +5,7 @@ use crate::console::LINE_BYTES;
 use crate::lent::Lent;
 use crate::plans::{add_surplus, ask, plan};
 use crate::random::Random;
-use crate::sizes::{ARCS, COORDINATE, NODES, WEIGHT};
+use crate::sizes::{ARCS, COORDINATE, NODES, TEXT_BYTES, WEIGHT};
 use crate::texts::{co_text, gr_text};
 
 /// Inputs in which the end or the length of a line matters.
@@ -147,6 +147,41 @@ pub fn limit_texts(random: &mut Random, name: &str) -> Case {
         case.say(format!("m {ARCS}"));
         case.say(format!("lend closed{} {byte}", " 0".repeat(places as usize - 1)));
         case.say("search 1 512");
+    }
+    case
+}
+
+/// What begins and ends a text whose middle, a number, makes it as long as a text may be.
+#[rustfmt::skip]
+const FAR_RIGHT: [(&str, &str, &str); 16] = [
+    ("gr", "a ", ""), ("gr", "a ", " "), ("gr", "a 1 ", " x"), ("gr", "a 1 1 ", " "), ("gr", "a 1 1 ", " 1"),
+    ("gr", "a 1 1 ", "x"), ("gr", "p sp ", " x"), ("gr", "p sp 1 ", " "), ("gr", "p sp 1 1\na ", " 1 "),
+    ("gr", "p sp 1 1\na ", " 1\n"), ("gr", "p sp 1 1\na 1 ", " 1 \n"),
+    ("co", "v ", ""), ("co", "v 1 -", " -0"), ("co", "v 1 1 -", " "), ("co", "p aux sp co ", " 1"), ("co", "p ", ""),
+];
+
+/// Last lines below as many comments as a text may have.
+const FAR_DOWN: [&str; 7] = ["x", "\n", " ", "a", "p sp", "a 1 1\n", "a 1 1 1 \n"];
+
+/// Slips as far to the right and as far down as the longest text allows, and the same a byte longer.
+pub fn limit_slips() -> Case {
+    let mut texts = Vec::new();
+    for bytes in [TEXT_BYTES, TEXT_BYTES + 1] {
+        for (kind, begin, end) in FAR_RIGHT {
+            texts.push((kind, format!("{begin}{}{end}", "1".repeat(bytes - begin.len() - end.len()))));
+        }
+        for end in FAR_DOWN {
+            let left = bytes - end.len() - 2;
+            let comments = if left % 2 == 0 { "c\n" } else { "c \n" }.to_string() + &"c\n".repeat(left / 2);
+            texts.push(("gr", comments + end));
+        }
+    }
+    let mut case = Case::default();
+    case.say("fresh");
+    case.say("n 1");
+    for (at, (kind, text)) in texts.into_iter().enumerate() {
+        case.say(format!("{kind} long{at}.{kind}"));
+        case.file(format!("long{at}.{kind}"), text.into_bytes());
     }
     case
 }

@@ -1,10 +1,11 @@
-//! The independent program: document 01 and requests a and b of 02 a second time, from their words alone, to compare the crates with.
+//! The independent program: document 01 and requests a to c of 02 a second time, from their words alone, to compare the crates with.
 //! It is built by: rustc -O --edition 2021 -o target/independent tests/independent/main.rs
 
 mod boxes;
 mod calls;
 mod cases;
 mod closures;
+mod columns;
 mod compare;
 mod console;
 mod files;
@@ -20,6 +21,7 @@ mod scratch;
 mod selftest;
 mod shrink;
 mod sizes;
+mod slips;
 mod talks;
 mod text;
 mod texts;

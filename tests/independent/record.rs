@@ -1,19 +1,23 @@
 //! The recorded cases, for comparing a console with a stored output.
 
 use crate::cases::{call_case, long_row, text_case, update_case, write_case, Case, ODD_LINES};
+use crate::columns::told_case;
 use crate::console::LINE_BYTES;
 use crate::hall;
 use crate::random::Random;
 use crate::sizes::TEXT_BYTES;
 use crate::talks::{exchanges, TALKS};
 
-/// The recorded cases: the hall plan, every refusal, every fault, some hundred cases from the seed, and the talks.
+/// The recorded cases: the hall plan, every refusal, every fault, lines with slips, cases from the seed, and the talks.
 pub fn recorded(seed: u64) -> Case {
     let mut case = hall::case();
     for (name, text) in BAD_TEXTS {
         case.file(name.to_string(), text.as_bytes().to_vec());
         case.say(format!("{} {name}", &name[name.len() - 2..]));
     }
+    let told = told_case();
+    case.files.extend(told.files);
+    case.lines.extend(told.lines);
     case.file("long.gr".to_string(), vec![b'c'; TEXT_BYTES + 1]);
     for line in ["gr long.gr", "fresh", "gr hall.gr", "co hall.co", "build"].iter().chain(&BAD_ROWS) {
         case.say(line);

@@ -14,11 +14,11 @@ pub fn refused<T>(number: usize, values: &[i64]) -> Result<T, Refusal> {
 }
 
 /// The words for each number; `{0}` and `{1}` stand for the first and the second value.
-const WORDS: [&str; 15] = [
+const WORDS: [&str; 18] = [
     "the file cannot be read",
     "the text is over 65536 bytes",
     "a lent row is too short",
-    "line {0} is not spelt like a line of this kind of file",
+    "line {0} is empty",
     "line {0} is data before the p line or a second p line",
     "a number in line {0} is beyond its limits",
     "the counts disagree at line {0}",
@@ -30,6 +30,9 @@ const WORDS: [&str; 15] = [
     "no walk leads from the source to the target, settled {0}",
     "the box of arc {0} misses node {1}",
     "the closure of arc {0} is neither 0 nor 1",
+    "line {0}, column {1}: no line of this kind of file begins so",
+    "line {0}, column {1}: the field is misspelt",
+    "line {0}, column {1}: a field is missing or one too many",
 ];
 
 /// The words for refusal 5 outside a text, where no line can be named.
@@ -45,9 +48,12 @@ impl Refusal {
         words
     }
 
-    /// The number and the place or 0, as the program `boxes` prints them.
+    /// What the program `boxes` prints: the number and the place or 0; for 3, 15, 16 and 17 the column after the line.
     pub fn with_place(&self) -> String {
-        format!("refused {} {}", self.number, self.values.first().unwrap_or(&0))
+        match (self.number, &self.values[..]) {
+            (3 | 15..=17, [line, column]) => format!("refused {} {line} {column}", self.number),
+            (_, values) => format!("refused {} {}", self.number, values.first().unwrap_or(&0)),
+        }
     }
 }
 

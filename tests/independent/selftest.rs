@@ -4,6 +4,7 @@ use crate::boxes::{all_s, Rectangle};
 use crate::calls::{boxed, build, check, judge_network, search, update};
 use crate::cases::{small, Case};
 use crate::closures;
+use crate::columns;
 use crate::console::{Fault, FAULT_WORDS};
 use crate::files::{listing, rows_for_reading};
 use crate::hall;
@@ -46,10 +47,13 @@ pub fn run() -> bool {
     one_tree_per_node(&mut tally);
     wholly_west(&mut tally);
     longest_texts(&mut tally);
+    columns::told_by_hand(&mut tally);
+    columns::all_short_lines(&mut tally);
     let mut random = Random::new(1);
     for _ in 0..4_000 {
         claims(&mut tally, &mut random);
         closures::claims(&mut tally, &mut random);
+        columns::claims(&mut tally, &mut random);
     }
     coverage(&mut tally);
     println!("{} passed, {} failed", tally.passed, tally.failed);
@@ -325,6 +329,10 @@ fn coverage(tally: &mut Tally) {
         let made = small.iter().filter(|case| on_closures(case, call)).count();
         tally.expect(10 * made >= small.len(), format!("{call} where a track is closed in {made} cases"));
     }
+    for (faulty, of) in [(1, 10), (2, 40)] {
+        let made = small.iter().filter(|case| columns::faulty_lines(case) >= faulty).count();
+        tally.expect(of * made >= small.len(), format!("{faulty} faulty lines in a text of {made} cases"));
+    }
     for (name, case) in [("recorded", recorded(1)), ("small", Case::together(&small))] {
         scratch.write(&case.files);
         let output = String::from_utf8(scratch.demanded(&case.input())).expect("replies are plain text");
@@ -332,9 +340,18 @@ fn coverage(tally: &mut Tally) {
         let spaced = output.lines().any(|line| line.ends_with(' '));
         tally.expect(!spaced, format!("{name}: no reply ends in a space"));
         let replies: BTreeSet<&str> = output.lines().collect();
-        for refusal in 0..=14 {
+        for refusal in 0..=17 {
             let begin = format!("refused {refusal} ");
             tally.expect(replies.iter().any(|reply| reply.starts_with(&begin)), format!("{name}: {begin}"));
+        }
+        for (kind, refusal) in
+            ["gr", "co"].into_iter().flat_map(|kind| [3, 15, 16, 17].map(|slip| (kind, slip)))
+        {
+            let (asks, begin) = (format!("{kind} "), format!("refused {refusal} "));
+            let told = case.lines.iter().zip(output.lines());
+            let seen =
+                told.filter(|(line, reply)| line.starts_with(asks.as_bytes()) && reply.starts_with(&begin));
+            tally.expect(seen.count() > 0, format!("{name}: {kind} {begin}"));
         }
         let unwritten = "refused 0 0 (the file cannot be written)";
         tally.expect(replies.contains(unwritten), format!("{name}: {unwritten}"));

@@ -360,7 +360,7 @@ gr hall.gr => ok 4 6
 update 1 3 1
 update 2 2 1
 show closed 3 => closed 1 1 0
-gr minus.gr => refused 3 2 (line 2 is not spelt like a line of this kind of file)
+gr minus.gr => refused 16 2 7 (line 2, column 7: the field is misspelt)
 show closed 3 => closed 1 1 0
 gr hall.gr => ok 4 6
 show closed 3 => closed 0 0 0

@@ -3,6 +3,7 @@
 use crate::lent::{fill, Lent};
 use crate::refusals::{refused, Refusal};
 use crate::sizes::*;
+use crate::slips::{slip, Format, CO, GR};
 
 /// Lines end in byte 10; the last may lack it, and a text ending in it has no further line.
 pub fn lines(text: &[u8]) -> Vec<&[u8]> {
@@ -72,6 +73,22 @@ fn co_line(line: &[u8]) -> Option<CoLine> {
     }
 }
 
+/// Whether a line has a form of .gr, a comment's included.
+pub fn has_gr_form(line: &[u8]) -> bool {
+    is_comment(line) || gr_line(line).is_some()
+}
+
+/// Whether a line has a form of .co, a comment's included.
+pub fn has_co_form(line: &[u8]) -> bool {
+    is_comment(line) || co_line(line).is_some()
+}
+
+/// Refusal 3, 15, 16 or 17 of a line without a form, with its line and column.
+fn slipped<T>(format: &Format, line: &[u8], at: i64) -> Result<T, Refusal> {
+    let slip = slip(format, line).expect("a line without a form has a fault");
+    refused(slip.number, &[at, slip.column])
+}
+
 /// Refusals 1 and 2: the text's bytes, then the places of the rows lent to a reader.
 fn judge_sizes(text: &[u8], rows: &[&Vec<i64>], places: i64) -> Result<(), Refusal> {
     if text.len() > TEXT_BYTES {
@@ -92,7 +109,7 @@ pub fn read_gr(text: &[u8], lent: &mut Lent) -> Result<(i64, i64), Refusal> {
     for line in lines(text) {
         if !is_comment(line) {
             match gr_line(line) {
-                None => return refused(3, &[at]),
+                None => return slipped(GR, line, at),
                 Some(GrLine::Problem(n, m)) => {
                     if counts.is_some() {
                         return refused(4, &[at]);
@@ -143,7 +160,7 @@ pub fn read_co(text: &[u8], lent: &mut Lent) -> Result<(), Refusal> {
     for line in lines(text) {
         if !is_comment(line) {
             match co_line(line) {
-                None => return refused(3, &[at]),
+                None => return slipped(CO, line, at),
                 Some(CoLine::Problem(nodes)) => {
                     if problem_seen {
                         return refused(4, &[at]);

@@ -57,6 +57,55 @@ const LINES: [&[u8]; 20] = [
     b"v 1 1 1", b"v 1 1 1000001", b"v 0 1 -1", b"v 1 1 -0",
 ];
 
+/// Letters for a line to begin with, and what hands add to a field.
+const LETTERS: [&[u8]; 13] =
+    [b"", b"a", b"v", b"p", b"c", b"A", b"V", b"aa", b"e", b"1", b"#", b"a\t", b"c\r"];
+const ADDED: [&[u8]; 10] = [b"", b"0", b"-", b"+", b",", b".", b"\t", b"\r", b"x", b"\xc3\xa9"];
+
+/// The text with one to three slips of the hand, in a line or in several.
+pub fn with_slips(random: &mut Random, text: &[u8]) -> Vec<u8> {
+    let mut split: Vec<Vec<u8>> = lines(text).into_iter().map(<[u8]>::to_vec).collect();
+    let mut at = random.below(split.len());
+    for _ in 0..random.pick(&[1, 1, 1, 2, 2, 3]) {
+        split[at] = with_slip(random, &split[at]);
+        if random.once_in(2) {
+            at = random.below(split.len());
+        }
+    }
+    let mut text = ended(&split);
+    if random.once_in(4) {
+        text.pop();
+    }
+    text
+}
+
+/// The line emptied, or with another first field, or with a later field misspelt, left out or added.
+fn with_slip(random: &mut Random, line: &[u8]) -> Vec<u8> {
+    let mut words: Vec<Vec<u8>> = fields(line).into_iter().map(<[u8]>::to_vec).collect();
+    let later = random.between(1, words.len() as i64) as usize;
+    let (field, added) = (random.pick(&FIELDS).to_vec(), random.pick(&ADDED));
+    match random.below(12) {
+        0 => return vec![],
+        1 => words[0] = random.pick(&LETTERS).to_vec(),
+        2 => words.insert(0, random.pick(&LETTERS).to_vec()),
+        3 => words.truncate(later),
+        4 => words.push(field),
+        5 => words.push(vec![]),
+        6 => words.insert(later, vec![]),
+        7 => words.insert(later, field),
+        // These speak of a later field that is there.
+        _ if later == words.len() => words.push(added.to_vec()),
+        8 => drop(words.remove(later)),
+        9 => words[later] = field,
+        10 => words[later].extend(added),
+        _ => {
+            let place = random.below(words[later].len() + 1);
+            words[later].splice(place..place, added.iter().copied());
+        }
+    }
+    words.join(&b' ')
+}
+
 /// Makes one thing wrong with a text, or at least other.
 pub fn damage(random: &mut Random, text: &[u8]) -> Vec<u8> {
     let mut text = text.to_vec();

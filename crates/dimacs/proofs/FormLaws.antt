@@ -62,28 +62,28 @@ pub arc-written : (u v w : ℕ) → grLine (lineText grArc (decimal u ∷ decima
 unfolding grLine bytes pieces opening firstAt sameBytes matched onField before taken takenNatural
 arc-written u v w =
     rw (arc-spelt (decimal u) (decimal v) (decimal w))
-    (data-written grProblem grArc 97 (decimal u) (decimal v ∷ decimal w ∷ []) (λ e. omega arith) (arc-clear 32 (omega arith) u v w) (naturals u v w) refl refl refl
+    (data-written grProblem grArc 97 (decimal u) (decimal v ∷ decimal w ∷ []) (λ e. omega arith) (arc-clear 32 (omega arith) u v w) (naturals u v w) refl refl
     (rw (natural-written u, natural-written v, natural-written w)))
 
 pub gr-written : (n m : ℕ) → grLine (lineText grProblem (decimal n ∷ decimal m ∷ [])) ≡ Problem (naturals n m 0)
 unfolding grLine bytes pieces opening firstAt sameBytes matched onField before taken takenNatural
 gr-written n m =
     rw (gr-spelt (decimal n) (decimal m))
-    (problem-written grProblem grArc 112 (115 ∷ 112 ∷ []) (decimal n ∷ decimal m ∷ []) (λ e. omega arith) (gr-clear 32 (omega arith) n m) (naturals n m 0) refl refl
+    (problem-written grProblem grArc 112 (115 ∷ 112 ∷ []) (decimal n ∷ decimal m ∷ []) (λ e. omega arith) (gr-clear 32 (omega arith) n m) (naturals n m 0) refl refl refl
     (rw (natural-written n, natural-written m)))
 
 pub co-written : (n : ℕ) → coLine (lineText coProblem (decimal n ∷ [])) ≡ Problem (naturals n 0 0)
 unfolding coLine bytes pieces opening firstAt sameBytes matched onField before taken takenNatural
 co-written n =
     rw (co-spelt (decimal n))
-    (problem-written coProblem coNode 112 (97 ∷ 117 ∷ 120 ∷ []) ((115 ∷ 112 ∷ []) ∷ (99 ∷ 111 ∷ []) ∷ decimal n ∷ []) (λ e. omega arith) (co-clear 32 (omega arith) n) (naturals n 0 0) refl refl
+    (problem-written coProblem coNode 112 (97 ∷ 117 ∷ 120 ∷ []) ((115 ∷ 112 ∷ []) ∷ (99 ∷ 111 ∷ []) ∷ decimal n ∷ []) (λ e. omega arith) (co-clear 32 (omega arith) n) (naturals n 0 0) refl refl refl
     (rw (natural-written n)))
 
 pub node-written : (v : ℕ) (x y : ℤ) → coLine (lineText coNode (decimal v ∷ whole x ∷ whole y ∷ [])) ≡ Data (located v x y)
 unfolding coLine bytes pieces opening firstAt sameBytes matched onField before taken takenNatural
 node-written v x y =
     rw (node-spelt (decimal v) (whole x) (whole y))
-    (data-written coProblem coNode 118 (decimal v) (whole x ∷ whole y ∷ []) (λ e. omega arith) (node-clear 32 (omega arith) v x y) (located v x y) refl refl refl
+    (data-written coProblem coNode 118 (decimal v) (whole x ∷ whole y ∷ []) (λ e. omega arith) (node-clear 32 (omega arith) v x y) (located v x y) refl refl
     (rw (natural-written v, integer-written x, integer-written y)))
 
 -- ---- a line that was read is written

@@ -10,3 +10,4 @@ pub mod Worked
 pub mod FormLaws
 pub mod TextLaws
 pub mod BeginLaws
+pub mod WhichField

@@ -8,7 +8,7 @@ use native.Mathlib.Omega.{arith}
 use lib.IntN.{ℤ, pos, negsuc}
 use lib.ListN.{length, drop}
 use Rattle.rules.specs.Paper.{accepted}
-use Rattle.rules.specs.declared.Refusal.the-variants.{NoForm, BeyondLimits, CountsDisagree}
+use Rattle.rules.specs.declared.Refusal.the-variants.{EmptyLine, BeyondLimits, CountsDisagree, NoLetter, Misspelt, FieldCount}
 use Rattle.scan.specs.Ascii.{bytes}
 use Rattle.scan.specs.Pieces.{opening, pieces, firstAt, sameBytes}
 use Rattle.scan.specs.Numbers.{valueFrom, naturalOf, plain, negated, integerOf}
@@ -44,15 +44,27 @@ pub worked-texts :
     (readText Graph netGr ≡ read (naturals 4 6 0) (naturals 1 2 3 ∷ naturals 2 3 2 ∷ naturals 1 3 5 ∷ naturals 3 4 1 ∷ naturals 1 4 9 ∷ naturals 4 1 4 ∷ []))
     × (readText (Coordinates 4) netCo
     ≡ read (naturals 4 0 0) (located 1 (pos 0) (pos 0) ∷ located 2 (pos 10) (pos 0) ∷ located 3 (pos 10) (pos 5) ∷ located 4 (negsuc 4) (pos 20) ∷ []))
-    × (gr (bytes "a 1 2 -3") ≡ refused (NoForm 2))
+    × (gr (bytes "a 1 2 -3") ≡ refused (Misspelt 2 7))
     × (gr (bytes "a 1 2 1000001") ≡ refused (BeyondLimits 2))
     × (co (bytes "v 0 1 1") ≡ refused (BeyondLimits 2))
-    × (co (bytes "v 1 07 1") ≡ refused (NoForm 2))
+    × (co (bytes "v 1 07 1") ≡ refused (Misspelt 2 5))
     × (readText Graph [] ≡ refused (CountsDisagree 1))
     × (readText (Coordinates 2) [] ≡ refused (CountsDisagree 1))
 unfolding netGr netCo bytes opening pieces firstAt sameBytes valueFrom naturalOf plain negated integerOf before takenNatural takenInteger taken onField matched lineOf
     within grLine grRules coLine coRules problemJudged dataJudged judged ended next onJudged readLines readText
 worked-texts = (refl, refl, refl, refl, refl, refl, refl, refl)
+
+-- each kind of fault, with line and column; a letter is permitted by the kind of file, and its words are later fields
+pub worked-faults :
+    (gr (bytes "\n") ≡ refused (EmptyLine 2 1))
+    × (gr (bytes "v 1 0 0") ≡ refused (NoLetter 2 1))
+    × (co (bytes "a 1 2 3") ≡ refused (NoLetter 2 1))
+    × (gr (bytes "p aux sp co 4") ≡ refused (Misspelt 2 3))
+    × (gr (bytes "a 1 2") ≡ refused (FieldCount 2 6))
+    × (co (bytes "v 1 0 0 ") ≡ refused (FieldCount 2 9))
+unfolding bytes opening pieces firstAt sameBytes valueFrom naturalOf plain negated integerOf before takenNatural takenInteger taken onField matched lineOf
+    within grLine grRules coLine coRules problemJudged dataJudged judged ended next onJudged readLines readText
+worked-faults = (refl, refl, refl, refl, refl, refl)
 
 -- whatever rows are lent
 pub net-gr-read : (tails heads weights closures : List ℕ)

@@ -1,9 +1,11 @@
--- What holds of every format's rules, as the proofs need it. No public statement cites this.
+-- What holds of every format's rules and lines, as the proofs need it. No public statement cites this.
 use Prim.Native.Nat.{_≤_, _<_}
 use mathlib.Core.Path.{_≡_}
 use mathlib.Core.Bool.{true}
 use lib.IntN.{ℤ, pos, negsuc}
 use Rattle.scan.specs.declared.holding.Numbers.{Numbers}
+use Rattle.scan.specs.declared.line.Line.{Line}
+use Rattle.scan.specs.declared.line.Line.the-variants.{Comment, Problem, Data, Faulty}
 use Rattle.dimacs.specs.Rules.{columnOf}
 use Rattle.dimacs.specs.declared.rows.Column.{Column}
 use Rattle.dimacs.specs.declared.format.Limits.{Limits}
@@ -40,3 +42,10 @@ pub record Fair (R : Rules) : Type 0 where
 abbrev pub FormatFair : Format → Type 0
 FormatFair Graph = Unit
 FormatFair (Coordinates n) = n ≤ 512
+
+-- a fault whose column is on a line of the longest text, or just after it
+abbrev pub Short : Line → Type 0
+Short Comment = Unit
+Short (Problem ns) = Unit
+Short (Data ns) = Unit
+Short (Faulty f) = f .column ≤ 65_537

@@ -3,6 +3,7 @@ pub mod Gr
 pub mod Co
 pub mod Formats
 pub mod Judgement
+pub mod WhichField
 pub mod Fair
 pub mod Texts
 pub mod Rows

@@ -6,8 +6,8 @@ use scan::line::read_line;
 ghost use mathlib.Core.Path.{_≡_};
 ghost use Rattle.scan.specs.Held.{heldLine};
 ghost use Rattle.dimacs.specs.Rules.{naturals, noneAbove, within};
-ghost use Rattle.dimacs.specs.Gr.{grRules};
-ghost use Rattle.dimacs.specs.Co.{coRules};
+ghost use Rattle.dimacs.specs.Gr.{grLine, grRules};
+ghost use Rattle.dimacs.specs.Co.{coLine, coRules};
 ghost use Rattle.dimacs.specs.Formats.{formatLine, rulesOf};
 
 // A format; the coordinates are of a graph of so many nodes.
@@ -131,12 +131,25 @@ pub fn rules_for(format: Format, problem: Numbers) -> Rules
     }
 }
 
+// A line of a graph, and of coordinates.
+fn line_gr(s: &[u8]) -> Line
+    ensures { λ r. ⌜ r ≡ heldLine (grLine (now (s .entry))) ⌝ }
+{
+    read_line(s, b"p sp N M", b"a U V W")
+}
+
+fn line_co(s: &[u8]) -> Line
+    ensures { λ r. ⌜ r ≡ heldLine (coLine (now (s .entry))) ⌝ }
+{
+    read_line(s, b"p aux sp co N", b"v ID X Y")
+}
+
 // What a line is.
 pub fn line_of(format: Format, s: &[u8]) -> Line
     ensures { λ r. ⌜ r ≡ heldLine (formatLine format (now (s .entry))) ⌝ }
 {
     match format {
-        Format::Graph => read_line(s, b"p sp N M", b"a U V W"),
-        Format::Coordinates(_) => read_line(s, b"p aux sp co N", b"v ID X Y"),
+        Format::Graph => line_gr(s),
+        Format::Coordinates(_) => line_co(s),
     }
 }

@@ -1,16 +1,18 @@
-// The judgement of a line, in the paper's order: 3, 4, 5, 7, 6.
+// The judgement of a line, in the paper's order: 3, 15, 16 and 17 for its form, then 4, 5, 7, 6.
 use crate::format::Rules;
 use crate::format::are_within;
 use crate::rows::natural;
 use rules::Judged;
 use rules::Refusal;
+use scan::fields::Fault;
+use scan::fields::Kind;
 use scan::holding::Numbers;
 use scan::line::Line;
 ghost use mathlib.Core.Path.{_≡_};
 ghost use mathlib.Core.Bool.{true};
 ghost use Prim.Native.Nat.{_≤_};
-ghost use Rattle.dimacs.specs.Judgement.{announced, problemJudged, again, dataJudged, judged, ended};
-ghost use Rattle.dimacs.specs.Fair.{Fair};
+ghost use Rattle.dimacs.specs.Judgement.{announced, problemJudged, again, dataJudged, faultAt, judged, ended};
+ghost use Rattle.dimacs.specs.Fair.{Fair, Short};
 
 // What was read of a text so far: its problem line, once it was seen, and how many data lines.
 pub struct Head {
@@ -76,16 +78,32 @@ fn judge_data(rules: Rules, head: Head, taken: &[bool; 2048], ns: Numbers, line:
     Judged::Refused(Refusal::CountsDisagree { line })
 }
 
+// The fault of a line.
+fn refusal_of(fault: Fault, line: u32) -> Refusal
+    requires { ⌜ fault .column ≤ 65537 ⌝ }
+    ensures { λ r. ⌜ r ≡ faultAt line (fault .column) (fault .kind) ⌝ }
+{
+    let column = fault.column as u32;
+    let kind = fault.kind;
+    match kind {
+        Kind::EmptyLine => Refusal::EmptyLine { line, column },
+        Kind::NoLetter => Refusal::NoLetter { line, column },
+        Kind::Misspelt => Refusal::Misspelt { line, column },
+        Kind::Missing => Refusal::FieldCount { line, column },
+        Kind::Extra => Refusal::FieldCount { line, column },
+    }
+}
+
 // Line number `line`, after what was read so far.
 pub fn judge(rules: Rules, head: Head, taken: &[bool; 2048], l: Line, line: u32) -> Judged
-    requires { ⌜ Fair rules ⌝ }
+    requires { ⌜ Fair rules × Short l ⌝ }
     ensures { λ r. ⌜ r ≡ judged rules head (now (taken .entry)) line l ⌝ }
 {
     match l {
         Line::Comment => Judged::Fine,
         Line::Problem(ns) => judge_problem(rules, head, ns, line),
         Line::Data(ns) => judge_data(rules, head, taken, ns, line),
-        Line::Faulty(_) => Judged::Refused(Refusal::NoForm { line }),
+        Line::Faulty(fault) => Judged::Refused(refusal_of(fault, line)),
     }
 }
 

@@ -10,7 +10,7 @@ use denote.Struct.Values.{Values}
 use denote.Enum.Declared.{Choice}
 use Rattle.rules.specs.Paper.{Reply, refusal, judgedReply}
 use Rattle.rules.specs.declared.Refusal.{Refusal}
-use Rattle.rules.specs.declared.Refusal.the-variants.{TextTooLong, RowTooShort, NoForm, OutOfOrder, BeyondLimits, CountsDisagree, NodeAgain, BadArc, BadCoordinate, BadBox, NotInNetwork, NoWalk, BoxMisses, BadClosure}
+use Rattle.rules.specs.declared.Refusal.the-variants.{TextTooLong, RowTooShort, EmptyLine, OutOfOrder, BeyondLimits, CountsDisagree, NodeAgain, BadArc, BadCoordinate, BadBox, NotInNetwork, NoWalk, BoxMisses, BadClosure, NoLetter, Misspelt, FieldCount}
 use Rattle.rules.specs.declared.Judged.{Judged}
 use Rattle.rules.specs.declared.Judged.the-variants.{Fine, Refused}
 use Rattle.rules.proofs.Refusal.{parts, as-values, make, eta}
@@ -62,7 +62,7 @@ sizes (Fs ∷ Fss) = length Fs ∷ sizes Fss
 table-order : (r : Refusal) → refusal r ≡ inOrder (sizes parts) 1 (as-values r)
 table-order TextTooLong = refl
 table-order RowTooShort = refl
-table-order (NoForm line) = refl
+table-order (EmptyLine line column) = refl
 table-order (OutOfOrder line) = refl
 table-order (BeyondLimits line) = refl
 table-order (CountsDisagree line) = refl
@@ -74,6 +74,9 @@ table-order NotInNetwork = refl
 table-order (NoWalk settled) = refl
 table-order (BoxMisses arc node) = refl
 table-order (BadClosure arc) = refl
+table-order (NoLetter line column) = refl
+table-order (Misspelt line column) = refl
+table-order (FieldCount line column) = refl
 
 pub refusal-nonzero : (r : Refusal) → 0 ≡ refusal r .number → ⊥
 refusal-nonzero r e = let n = ap (λ (x : Reply). x .number) (table-order r) in omega (arith, from-first (sizes parts) 1 (as-values r), n)

@@ -1,8 +1,10 @@
 -- What the paper says of each refusal: its number, and the values that are returned with it.
 use Prim.Native.Nat.{ℕ}
+use mathlib.Core.Bool.{Bool, _&&_, _||_}
 use mathlib.Core.List.{List, [], _∷_}
+use lib.Dec.{eqb, leb}
 use Rattle.rules.specs.declared.Refusal.{Refusal}
-use Rattle.rules.specs.declared.Refusal.the-variants.{TextTooLong, RowTooShort, NoForm, OutOfOrder, BeyondLimits, CountsDisagree, NodeAgain, BadArc, BadCoordinate, BadBox, NotInNetwork, NoWalk, BoxMisses, BadClosure}
+use Rattle.rules.specs.declared.Refusal.the-variants.{TextTooLong, RowTooShort, EmptyLine, OutOfOrder, BeyondLimits, CountsDisagree, NodeAgain, BadArc, BadCoordinate, BadBox, NotInNetwork, NoWalk, BoxMisses, BadClosure, NoLetter, Misspelt, FieldCount}
 use Rattle.rules.specs.declared.Judged.{Judged}
 use Rattle.rules.specs.declared.Judged.the-variants.{Fine, Refused}
 
@@ -15,7 +17,7 @@ pub record Reply : Type 0 where
 abbrev pub refusal : Refusal → Reply
 refusal TextTooLong = record { number = 1; values = [] }
 refusal RowTooShort = record { number = 2; values = [] }
-refusal (NoForm line) = record { number = 3; values = line ∷ [] }
+refusal (EmptyLine line column) = record { number = 3; values = line ∷ column ∷ [] }
 refusal (OutOfOrder line) = record { number = 4; values = line ∷ [] }
 refusal (BeyondLimits line) = record { number = 5; values = line ∷ [] }
 refusal (CountsDisagree line) = record { number = 6; values = line ∷ [] }
@@ -27,6 +29,9 @@ refusal NotInNetwork = record { number = 11; values = [] }
 refusal (NoWalk settled) = record { number = 12; values = settled ∷ [] }
 refusal (BoxMisses arc node) = record { number = 13; values = arc ∷ node ∷ [] }
 refusal (BadClosure arc) = record { number = 14; values = arc ∷ [] }
+refusal (NoLetter line column) = record { number = 15; values = line ∷ column ∷ [] }
+refusal (Misspelt line column) = record { number = 16; values = line ∷ column ∷ [] }
+refusal (FieldCount line column) = record { number = 17; values = line ∷ column ∷ [] }
 
 abbrev pub numberOf : Refusal → ℕ
 numberOf r = refusal r .number
@@ -38,6 +43,10 @@ firstOr0 (v ∷ vs) = v
 
 abbrev pub placeOf : Refusal → ℕ
 placeOf r = firstOr0 (refusal r .values)
+
+-- 3, 15, 16 and 17 are a line's faults; their values are line and column
+abbrev pub tellsColumn : ℕ → Bool
+tellsColumn number = eqb number 3 || (leb 15 number && leb number 17)
 
 -- a call that is accepted, with its results
 abbrev pub accepted : List ℕ → Reply

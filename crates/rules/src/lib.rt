@@ -2,7 +2,7 @@
 ghost use Prim.Native.Nat.{_≤_};
 ghost use mathlib.Core.Path.{_≡_};
 ghost use mathlib.Core.List.{[], _∷_};
-ghost use Rattle.rules.specs.Paper.{refusal, numberOf, placeOf};
+ghost use Rattle.rules.specs.Paper.{refusal, numberOf, placeOf, tellsColumn};
 ghost use Rattle.rules.specs.Told.{toldOf};
 
 // At most so many nodes and arcs.
@@ -27,8 +27,8 @@ pub enum Refusal {
     TextTooLong,
     // 2: a lent row is too short
     RowTooShort,
-    // 3: a line has no form for its kind of file
-    NoForm { line: u32 },
+    // 3: an empty line
+    EmptyLine { line: u32, column: u32 },
     // 4: data before `p`, or a second `p`
     OutOfOrder { line: u32 },
     // 5: n, m, a node number, a weight or a coordinate beyond its limits; line 0 outside a text
@@ -51,6 +51,12 @@ pub enum Refusal {
     BoxMisses { arc: u32, node: u32 },
     // 14: an arc's closure is a byte other than 0 or 1
     BadClosure { arc: u32 },
+    // 15: a line's first field is no letter that its kind of file permits
+    NoLetter { line: u32, column: u32 },
+    // 16: a later field is misspelt
+    Misspelt { line: u32, column: u32 },
+    // 17: a field is missing, or there is one too many
+    FieldCount { line: u32, column: u32 },
 }
 
 // What a step that only judges answers.
@@ -106,7 +112,7 @@ impl Refusal {
         match self {
             Refusal::TextTooLong => alone(1),
             Refusal::RowTooShort => alone(2),
-            Refusal::NoForm { line } => with(3, line),
+            Refusal::EmptyLine { line, column } => with_two(3, line, column),
             Refusal::OutOfOrder { line } => with(4, line),
             Refusal::BeyondLimits { line } => with(5, line),
             Refusal::CountsDisagree { line } => with(6, line),
@@ -118,6 +124,9 @@ impl Refusal {
             Refusal::NoWalk { settled } => with(12, settled),
             Refusal::BoxMisses { arc, node } => with_two(13, arc, node),
             Refusal::BadClosure { arc } => with(14, arc),
+            Refusal::NoLetter { line, column } => with_two(15, line, column),
+            Refusal::Misspelt { line, column } => with_two(16, line, column),
+            Refusal::FieldCount { line, column } => with_two(17, line, column),
         }
     }
 
@@ -126,6 +135,14 @@ impl Refusal {
     {
         let told = self.told();
         told.number
+    }
+
+    // Whether the values are a line and a column: 3, 15, 16 and 17.
+    pub fn tells_column(self) -> bool
+        ensures { λ r. ⌜ r ≡ tellsColumn (numberOf self) ⌝ }
+    {
+        let number = self.number();
+        (number == 3) | ((15 <= number) & (number <= 17))
     }
 
     // The first of a refusal's values, or 0 where it has none: what `boxes` prints as the place.

@@ -57,17 +57,17 @@ unfolding firstAt spread
 first-field b f fs h = rw (ne-eqb b 32 h)
 
 module _ (problem rows : List ℕ) (b : ℕ) (f : List ℕ) (fs : List (List ℕ)) (h : b ≡ 32 → ⊥) (c : Clear 32 (f ∷ fs)) (ns : Numbers) where
-  pub data-written : sameBytes (b ∷ []) (99 ∷ []) ≡ false → sameBytes (b ∷ []) (firstField problem) ≡ false → sameBytes (b ∷ []) (firstField rows) ≡ true
+  pub data-written : sameBytes (b ∷ []) (99 ∷ []) ≡ false → sameBytes (b ∷ []) (firstField rows) ≡ true
       → matched (fieldsOf rows) 1 ((b ∷ []) ∷ f ∷ fs) ≡ Read ns → lineOf problem rows ((b ∷ []) ++ spread (f ∷ fs)) ≡ Data ns
   unfolding lineOf
-  data-written p q r m =
-      rw (ne-eqb (length ((b ∷ []) ++ spread (f ∷ fs))) 0 (λ e. omega arith), first-field b f fs h, p, q, r, fields-joined (b ∷ []) (f ∷ fs) (word-1 32 b h) c, m)
+  data-written p q m =
+      rw (ne-eqb (length ((b ∷ []) ++ spread (f ∷ fs))) 0 (λ e. omega arith), first-field b f fs h, p, q, fields-joined (b ∷ []) (f ∷ fs) (word-1 32 b h) c, m)
 
-  pub problem-written : sameBytes (b ∷ []) (99 ∷ []) ≡ false → sameBytes (b ∷ []) (firstField problem) ≡ true
+  pub problem-written : sameBytes (b ∷ []) (99 ∷ []) ≡ false → sameBytes (b ∷ []) (firstField rows) ≡ false → sameBytes (b ∷ []) (firstField problem) ≡ true
       → matched (fieldsOf problem) 1 ((b ∷ []) ∷ f ∷ fs) ≡ Read ns → lineOf problem rows ((b ∷ []) ++ spread (f ∷ fs)) ≡ Problem ns
   unfolding lineOf
-  problem-written p q m =
-      rw (ne-eqb (length ((b ∷ []) ++ spread (f ∷ fs))) 0 (λ e. omega arith), first-field b f fs h, p, q, fields-joined (b ∷ []) (f ∷ fs) (word-1 32 b h) c, m)
+  problem-written p q r m =
+      rw (ne-eqb (length ((b ∷ []) ++ spread (f ∷ fs))) 0 (λ e. omega arith), first-field b f fs h, p, q, r, fields-joined (b ∷ []) (f ∷ fs) (word-1 32 b h) c, m)
 
 pub uncommented : (b : ℕ) (f : List ℕ) (fs : List (List ℕ)) → (b ≡ 32 → ⊥) → eqb b 99 ≡ false → isComment ((b ∷ []) ++ spread (f ∷ fs)) ≡ false
 unfolding sameBytes
@@ -108,7 +108,7 @@ same-is (b ∷ s) (c ∷ t) e =
 
 -- a field of the form read off the line: the line's field, and what the later ones hold
 module _ (p : List ℕ) (ps : List (List ℕ)) (c : ℕ) (full : Numbers) where
-  matched-step : (fs : List (List ℕ)) → matched (p ∷ ps) c fs ≡ Read full
+  pub matched-step : (fs : List (List ℕ)) → matched (p ∷ ps) c fs ≡ Read full
       → (f : List ℕ) × (gs : List (List ℕ)) × (v : Value) × (ms : Numbers) × (fs ≡ f ∷ gs) × (taken p f ≡ Taken v) × (matched ps (c + (length f + 1)) gs ≡ Read ms) × (before v ms ≡ full)
   unfolding matched
   matched-step [] e = absurd (let z : _≡_ {A = ℕ} 0 1 = cc in omega arith)
@@ -185,12 +185,12 @@ module _ (problem rows s : List ℕ) where
       by-tests (eqb (length s) 0) (sameBytes (firstField s) (99 ∷ [])) (sameBytes (firstField s) (firstField problem)) (sameBytes (firstField s) (firstField rows)) e
     where
       by-tests : (a b c d : Bool)
-          → cond a (faulty EmptyLine) (cond b Comment (cond c (problemLine (matched (fieldsOf problem) 1 (fieldsOf s))) (cond d (dataLine (matched (fieldsOf rows) 1 (fieldsOf s))) (faulty NoLetter)))) ≡ Data ns
+          → cond a (faulty EmptyLine) (cond b Comment (cond d (dataLine (matched (fieldsOf rows) 1 (fieldsOf s))) (cond c (problemLine (matched (fieldsOf problem) 1 (fieldsOf s))) (faulty NoLetter)))) ≡ Data ns
           → matched (fieldsOf rows) 1 (fieldsOf s) ≡ Read ns
       by-tests true b c d e = absurd (let z : _≡_ {A = ℕ} 0 1 = cc in omega arith)
       by-tests false true c d e = absurd (let z : _≡_ {A = ℕ} 0 1 = cc in omega arith)
-      by-tests false false true d e = absurd (problem-no-data (matched (fieldsOf problem) 1 (fieldsOf s)) ns e)
-      by-tests false false false true e = data-read (matched (fieldsOf rows) 1 (fieldsOf s)) ns e
+      by-tests false false true false e = absurd (problem-no-data (matched (fieldsOf problem) 1 (fieldsOf s)) ns e)
+      by-tests false false c true e = data-read (matched (fieldsOf rows) 1 (fieldsOf s)) ns e
       by-tests false false false false e = absurd (let z : _≡_ {A = ℕ} 0 1 = cc in omega arith)
 
   pub line-problem : (ns : Numbers) → lineOf problem rows s ≡ Problem ns → matched (fieldsOf problem) 1 (fieldsOf s) ≡ Read ns
@@ -199,12 +199,12 @@ module _ (problem rows s : List ℕ) where
       by-tests (eqb (length s) 0) (sameBytes (firstField s) (99 ∷ [])) (sameBytes (firstField s) (firstField problem)) (sameBytes (firstField s) (firstField rows)) e
     where
       by-tests : (a b c d : Bool)
-          → cond a (faulty EmptyLine) (cond b Comment (cond c (problemLine (matched (fieldsOf problem) 1 (fieldsOf s))) (cond d (dataLine (matched (fieldsOf rows) 1 (fieldsOf s))) (faulty NoLetter)))) ≡ Problem ns
+          → cond a (faulty EmptyLine) (cond b Comment (cond d (dataLine (matched (fieldsOf rows) 1 (fieldsOf s))) (cond c (problemLine (matched (fieldsOf problem) 1 (fieldsOf s))) (faulty NoLetter)))) ≡ Problem ns
           → matched (fieldsOf problem) 1 (fieldsOf s) ≡ Read ns
       by-tests true b c d e = absurd (let z : _≡_ {A = ℕ} 0 1 = cc in omega arith)
       by-tests false true c d e = absurd (let z : _≡_ {A = ℕ} 0 1 = cc in omega arith)
-      by-tests false false true d e = problem-read (matched (fieldsOf problem) 1 (fieldsOf s)) ns e
-      by-tests false false false true e = absurd (data-no-problem (matched (fieldsOf rows) 1 (fieldsOf s)) ns e)
+      by-tests false false true false e = problem-read (matched (fieldsOf problem) 1 (fieldsOf s)) ns e
+      by-tests false false c true e = absurd (data-no-problem (matched (fieldsOf rows) 1 (fieldsOf s)) ns e)
       by-tests false false false false e = absurd (let z : _≡_ {A = ℕ} 0 1 = cc in omega arith)
 
   pub line-comment : lineOf problem rows s ≡ Comment → isComment s ≡ false → ⊥
@@ -213,10 +213,10 @@ module _ (problem rows s : List ℕ) where
       by-tests (eqb (length s) 0) (sameBytes (firstField s) (99 ∷ [])) (sameBytes (firstField s) (firstField problem)) (sameBytes (firstField s) (firstField rows)) e f
     where
       by-tests : (a b c d : Bool)
-          → cond a (faulty EmptyLine) (cond b Comment (cond c (problemLine (matched (fieldsOf problem) 1 (fieldsOf s))) (cond d (dataLine (matched (fieldsOf rows) 1 (fieldsOf s))) (faulty NoLetter)))) ≡ Comment
+          → cond a (faulty EmptyLine) (cond b Comment (cond d (dataLine (matched (fieldsOf rows) 1 (fieldsOf s))) (cond c (problemLine (matched (fieldsOf problem) 1 (fieldsOf s))) (faulty NoLetter)))) ≡ Comment
           → b ≡ false → ⊥
       by-tests true b c d e g = let z : _≡_ {A = ℕ} 0 1 = cc in omega arith
       by-tests false true c d e g = let z : _≡_ {A = ℕ} 1 0 = ap (λ (q : Bool). cond q 1 0) g in omega arith
-      by-tests false false true d e g = problem-no-comment (matched (fieldsOf problem) 1 (fieldsOf s)) e
-      by-tests false false false true e g = data-no-comment (matched (fieldsOf rows) 1 (fieldsOf s)) e
+      by-tests false false true false e g = problem-no-comment (matched (fieldsOf problem) 1 (fieldsOf s)) e
+      by-tests false false c true e g = data-no-comment (matched (fieldsOf rows) 1 (fieldsOf s)) e
       by-tests false false false false e g = let z : _≡_ {A = ℕ} 0 1 = cc in omega arith

@@ -6,3 +6,5 @@ pub mod PieceLaws
 pub mod DecimalLaws
 pub mod WrittenLaws
 pub mod FormLaws
+pub mod FaultLaws
+pub mod WorkedLines

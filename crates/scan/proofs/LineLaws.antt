@@ -42,23 +42,23 @@ pub line-comment : (problem rows s l : List ℕ) → (length s ≡ 0 → ⊥) �
 unfolding lineOf heldLine
 line-comment problem rows s l some letter t = rw (ne-eqb (length s) 0 some, ← letter, t)
 
--- the line s is not empty and no comment; its first field is l, and that of the problem line's form p
-pub record Letters (problem s l p : List ℕ) : Type 0 where
+-- the line s is not empty and no comment; its first field is l, and that of the data lines' form q
+pub record Letters (rows s l q : List ℕ) : Type 0 where
   pub some : length s ≡ 0 → ⊥
   pub letter : l ≡ firstField s
   pub not-c : sameBytes l (code "c" ∷ []) ≡ false
-  pub form-letter : p ≡ firstField problem
+  pub form-letter : q ≡ firstField rows
 
-module _ (problem rows s l p : List ℕ) (g : Letters problem s l p) where
-  pub line-problem : (f : Fields) → sameBytes l p ≡ true → f ≡ heldFields (matched (fieldsOf problem) 1 (fieldsOf s)) → problemLine f ≡ heldLine (lineOf problem rows s)
+module _ (problem rows s l q : List ℕ) (g : Letters rows s l q) where
+  pub line-data : (f : Fields) → sameBytes l q ≡ true → f ≡ heldFields (matched (fieldsOf rows) 1 (fieldsOf s)) → dataLine f ≡ heldLine (lineOf problem rows s)
   unfolding lineOf
-  line-problem f t h = rw (ne-eqb (length s) 0 (g .some), ← g .letter, ← g .form-letter, g .not-c, t, h) (held-problem _)
+  line-data f t h = rw (ne-eqb (length s) 0 (g .some), ← g .letter, ← g .form-letter, g .not-c, t, h) (held-data _)
 
-  module _ (not-p : sameBytes l p ≡ false) (q : List ℕ) (letter-q : q ≡ firstField rows) where
-    pub line-data : (f : Fields) → sameBytes l q ≡ true → f ≡ heldFields (matched (fieldsOf rows) 1 (fieldsOf s)) → dataLine f ≡ heldLine (lineOf problem rows s)
+  module _ (not-q : sameBytes l q ≡ false) (p : List ℕ) (letter-p : p ≡ firstField problem) where
+    pub line-problem : (f : Fields) → sameBytes l p ≡ true → f ≡ heldFields (matched (fieldsOf problem) 1 (fieldsOf s)) → problemLine f ≡ heldLine (lineOf problem rows s)
     unfolding lineOf
-    line-data f t h = rw (ne-eqb (length s) 0 (g .some), ← g .letter, ← g .form-letter, ← letter-q, g .not-c, not-p, t, h) (held-data _)
+    line-problem f t h = rw (ne-eqb (length s) 0 (g .some), ← g .letter, ← g .form-letter, ← letter-p, g .not-c, not-q, t, h) (held-problem _)
 
-    pub line-none : sameBytes l q ≡ false → faulty NoLetter ≡ heldLine (lineOf problem rows s)
+    pub line-none : sameBytes l p ≡ false → faulty NoLetter ≡ heldLine (lineOf problem rows s)
     unfolding lineOf heldLine
-    line-none t = rw (ne-eqb (length s) 0 (g .some), ← g .letter, ← g .form-letter, ← letter-q, g .not-c, not-p, t)
+    line-none t = rw (ne-eqb (length s) 0 (g .some), ← g .letter, ← g .form-letter, ← letter-p, g .not-c, not-q, t)

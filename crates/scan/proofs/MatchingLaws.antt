@@ -40,10 +40,10 @@ held-on NotTaken c later = refl
 -- ---- one field of a line
 
 -- the fields after the first, which ends at e
-abbrev later : List ℕ → ℕ → List (List ℕ)
+abbrev pub later : List ℕ → ℕ → List (List ℕ)
 later s e = cond (ltb e (length s)) (fieldsOf (drop (e + 1) s)) []
 
-fields-first : (s : List ℕ) (e : ℕ) → e ≡ firstAt 32 s → fieldsOf s ≡ take e s ∷ later s e
+pub fields-first : (s : List ℕ) (e : ℕ) → e ≡ firstAt 32 s → fieldsOf s ≡ take e s ∷ later s e
 fields-first s e p = ⊎-elim one more (eq-or-lt-of-le (first-le 32 s))
   where
     one : firstAt 32 s ≡ length s → fieldsOf s ≡ take e s ∷ later s e
@@ -56,7 +56,7 @@ fields-first s e p = ⊎-elim one more (eq-or-lt-of-le (first-le 32 s))
 pub form-shorter : (form p : List ℕ) (d t : ℕ) → length form ≡ t → p ≡ drop (d + 1) form → d < length form → length p < t
 form-shorter form p d t n e h = omega (arith, rest-long form p (d + 1) e)
 
-pub line-shorter : (s t : List ℕ) (c e : ℕ) → c + length s < 2 ^ 64 → t ≡ drop (e + 1) s → e < length s → c + e + 1 + length t < 2 ^ 64
+pub line-shorter : (s t : List ℕ) (c e : ℕ) → c + length s + 1 < 2 ^ 64 → t ≡ drop (e + 1) s → e < length s → c + e + 1 + length t + 1 < 2 ^ 64
 line-shorter s t c e h d k = omega (arith, rest-long s t (e + 1) d)
 
 -- what is known where the first field f of the form and of the line s is read: they end at d and e
@@ -97,7 +97,7 @@ module _ (form s : List ℕ) (c d e : ℕ) (f : Field) (g : First form s d e f) 
     unfolding onField matched heldFields
     field-missing h k =
         let a : (c + (e + 1)) - 1 ≡ c + e = omega arith in
-        sym (step ∙ rw (q, lt-ltb _ _ h, le-ltb _ _ k, fields-first (drop (d + 1) form) (firstAt 32 (drop (d + 1) form)) refl, a))
+        sym (step ∙ rw (q, lt-ltb _ _ h, le-ltb _ _ k, fields-first (drop (d + 1) form) (firstAt 32 (drop (d + 1) form)) refl) (ap (unread Missing) a))
 
     module _ (h : d < length form) (k : e < length s) (p t : List ℕ) (ep : p ≡ drop (d + 1) form) (et : t ≡ drop (e + 1) s) (r : Fields)
         (er : r ≡ heldFields (matched (fieldsOf p) (c + e + 1) (fieldsOf t))) where

@@ -55,14 +55,14 @@ taken form s =
 abbrev pub unread : Kind → ℕ → Fields
 unread kind column = Unread (record { kind = kind; column = column })
 
--- a field at the column c, and the fields after it
+-- a field at the column c, and the fields after it: a wrong spelling, an empty field too, is a fault at the field's first byte
 unfoldable pub onField : Field → ℕ → Fields → Fields
 onField (Taken v) c (Read ns) = Read (before v ns)
 onField (Taken v) c (Unread f) = Unread f
 onField NotTaken c later = unread Misspelt c
 
--- the fields of a line where the form has the fields ps; the first stands at the column c.
--- A missing field is seen after the line's last byte, any other fault where the field stands.
+-- the fields of a line from the column c on, where the form has the fields ps. An extra field is a fault at its first byte, an empty
+-- one where it would stand; a missing field is one at the column after the line's last byte, where the space before it would stand.
 unfoldable pub matched : List (List ℕ) → ℕ → List (List ℕ) → Fields
 matched [] c [] = Read none
 matched [] c (f ∷ fs) = unread Extra c

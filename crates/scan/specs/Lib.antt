@@ -3,6 +3,8 @@ pub mod Pieces
 pub mod Numbers
 pub mod Fields
 pub mod Line
+pub mod Faults
 pub mod Held
 pub mod Decimal
 pub mod Written
+pub mod WorkedLines

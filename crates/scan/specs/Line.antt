@@ -30,11 +30,12 @@ faulty kind = Faulty (record { kind = kind; column = 1 })
 abbrev pub isComment : List ℕ → Bool
 isComment s = sameBytes (firstField s) (code "c" ∷ [])
 
--- the line s of a format whose problem line has the form `problem` and whose data lines have the form `rows`
+-- the line s of a format whose problem line has the form `problem` and whose data lines have the form `rows`. An empty line is a fault
+-- at column 1, and so is a first field, of any other line, that is no letter of the format; the letter says which form is to follow.
 unfoldable pub lineOf : List ℕ → List ℕ → List ℕ → Line
 lineOf problem rows s =
     cond (eqb (length s) 0) (faulty EmptyLine)
     (cond (isComment s) Comment
-    (cond (sameBytes (firstField s) (firstField problem)) (problemLine (matched (fieldsOf problem) 1 (fieldsOf s)))
     (cond (sameBytes (firstField s) (firstField rows)) (dataLine (matched (fieldsOf rows) 1 (fieldsOf s)))
+    (cond (sameBytes (firstField s) (firstField problem)) (problemLine (matched (fieldsOf problem) 1 (fieldsOf s)))
     (faulty NoLetter))))

@@ -81,7 +81,7 @@ fn take_field(form: &[u8], s: &[u8]) -> Field
 
 // The fields of s, of which the first stands at the column, where the form has those of `form`.
 fn match_fields(form: &[u8], s: &[u8], column: usize) -> Fields
-    requires { ⌜ column + length (now s) < 2 ^ 64 ⌝ }
+    requires { ⌜ column + length (now s) + 1 < 2 ^ 64 ⌝ }
     ensures { λ r. ⌜ r ≡ heldFields (matched (fieldsOf (now (form .entry))) column (fieldsOf (now (s .entry)))) ⌝ }
 {
     let d = first_at(form, b' ');

@@ -43,15 +43,15 @@ pub fn read_line(s: &[u8], problem: &[u8], data: &[u8]) -> Line
     if same_bytes(letter, b"c") {
         return Line::Comment;
     }
+    if same_bytes(letter, front(data, first_at(data, b' '))) {
+        return data_line(read_fields(data, s));
+    }
     if same_bytes(letter, front(problem, first_at(problem, b' '))) {
         let f = read_fields(problem, s);
         let Fields::Read(ns) = f else {
             return data_line(f);
         };
         return Line::Problem(ns);
-    }
-    if same_bytes(letter, front(data, first_at(data, b' '))) {
-        return data_line(read_fields(data, s));
     }
     Line::Faulty(Fault {
         kind: Kind::NoLetter,

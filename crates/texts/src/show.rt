@@ -8,13 +8,19 @@ use printing::number;
 use printing::text;
 use rules::Refusal;
 
-// `refused`, the paper's number, and the line where there is one.
+// `refused`, the paper's number, and the line and the column where there are any.
 fn refused(r: Refusal) {
+    let told = r.told();
+    let values = told.values;
     text(b"refused ");
-    count(r.number());
-    if 2 < r.number() {
+    count(told.number);
+    if 1 <= told.count {
         text(b" ");
-        count(r.place());
+        count(values[0]);
+    }
+    if 2 <= told.count {
+        text(b" ");
+        count(values[1]);
     }
     text(b"\n");
 }

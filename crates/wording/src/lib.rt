@@ -1,7 +1,9 @@
 // Refusals as the programs print them.
 ghost use Prim.Native.Nat.{_+_, _≤_};
+ghost use lib.ListN.{length};
 ghost use Rattle.pages.specs.Page.{Puts};
-ghost use Rattle.wording.specs.Refusals.{placeLine, valuesText, wordsText, refusalLine, noFileLine};
+ghost use Rattle.pages.specs.Spaced.{countsText};
+ghost use Rattle.wording.specs.Refusals.{printedValues, placeLine, valuesText, faultText, wordsText, refusalLine, noFileLine};
 use pages::PAGE;
 use pages::put;
 use pages::put_after;
@@ -9,17 +11,6 @@ use pages::put_between;
 use pages::put_count;
 use pages::rows::put_counts;
 use rules::Refusal;
-
-// `refused`, the paper's number, and the place or 0: a line of `boxes`.
-pub fn put_place(page: &mut [u8; PAGE], at: usize, why: Refusal) -> usize
-    requires { ⌜ at + 50 ≤ 368640 ⌝ }
-    ensures { λ r. ⌜ Puts (placeLine why) at (now (page .entry)) r (now (page .exit)) ⌝ }
-    ensures { λ r. ⌜ r ≤ at + 50 ⌝ }
-{
-    let a = put_after(page, at, b"refused ", why.number());
-    let b = put_after(page, a, b" ", why.place());
-    put(page, b, b"\n")
-}
 
 // The refusal's values, each after a space.
 fn put_values(page: &mut [u8; PAGE], at: usize, why: Refusal) -> usize
@@ -30,6 +21,41 @@ fn put_values(page: &mut [u8; PAGE], at: usize, why: Refusal) -> usize
     let told = why.told();
     let values = told.values;
     put_counts(page, at, &values[..told.count])
+}
+
+// What `boxes` prints of the values: line and column of 3, 15, 16 and 17, else the place, or 0.
+fn put_printed(page: &mut [u8; PAGE], at: usize, why: Refusal) -> usize
+    requires { ⌜ at ≤ 1000 ⌝ }
+    ensures { λ r. ⌜ Puts (countsText (printedValues why)) at (now (page .entry)) r (now (page .exit)) ⌝ }
+    ensures { λ r. ⌜ r ≤ at + 260 ⌝ }
+{
+    if why.tells_column() {
+        return put_values(page, at, why);
+    }
+    put_after(page, at, b" ", why.place())
+}
+
+// `refused`, the paper's number, and the place, with its column where there is one: a line of `boxes`.
+pub fn put_place(page: &mut [u8; PAGE], at: usize, why: Refusal) -> usize
+    requires { ⌜ at ≤ 500 ⌝ }
+    ensures { λ r. ⌜ Puts (placeLine why) at (now (page .entry)) r (now (page .exit)) ⌝ }
+    ensures { λ r. ⌜ r ≤ at + 300 ⌝ }
+{
+    let a = put_after(page, at, b"refused ", why.number());
+    let b = put_printed(page, a, why);
+    put(page, b, b"\n")
+}
+
+// A fault of a line: where it is seen, and what it is.
+fn put_fault(page: &mut [u8; PAGE], at: usize, line: u32, column: u32, words: &[u8]) -> usize
+    requires { ⌜ (at ≤ 1000) × (length (now words) ≤ 200) ⌝ }
+    ensures { λ r. ⌜ Puts (faultText line column (now (words .entry))) at (now (page .entry)) r (now (page .exit)) ⌝ }
+    ensures { λ r. ⌜ r ≤ at + 56 + length (now (words .entry)) ⌝ }
+{
+    let a = put_between(page, at, b"line ", line, b", column ");
+    let b = put_count(page, a, column);
+    let c = put(page, b, b": ");
+    put(page, c, words)
 }
 
 // The refusal in words.
@@ -45,14 +71,8 @@ fn put_words(page: &mut [u8; PAGE], at: usize, why: Refusal) -> usize
         Refusal::RowTooShort => {
             return put(page, at, b"a lent row is too short");
         }
-        Refusal::NoForm { line } => {
-            return put_between(
-                page,
-                at,
-                b"line ",
-                line,
-                b" is not spelt like a line of this kind of file",
-            );
+        Refusal::EmptyLine { line, column: _ } => {
+            return put_between(page, at, b"line ", line, b" is empty");
         }
         Refusal::OutOfOrder { line } => {
             return put_between(
@@ -112,6 +132,27 @@ fn put_words(page: &mut [u8; PAGE], at: usize, why: Refusal) -> usize
                 b"the closure of arc ",
                 arc,
                 b" is neither 0 nor 1",
+            );
+        }
+        Refusal::NoLetter { line, column } => {
+            return put_fault(
+                page,
+                at,
+                line,
+                column,
+                b"no line of this kind of file begins so",
+            );
+        }
+        Refusal::Misspelt { line, column } => {
+            return put_fault(page, at, line, column, b"the field is misspelt");
+        }
+        Refusal::FieldCount { line, column } => {
+            return put_fault(
+                page,
+                at,
+                line,
+                column,
+                b"a field is missing or one too many",
             );
         }
     }

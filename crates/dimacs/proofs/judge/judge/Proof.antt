@@ -1,5 +1,7 @@
-use mathlib.Core.Path.{sym, ap, _∙_}
+use mathlib.Core.Path.{sym, ap, subst, _∙_}
+use Rattle.rules.specs.declared.Judged.the-variants.{Refused}
 use Rattle.dimacs.specs.Judgement.{judged}
+use Rattle.dimacs.specs.Fair.{Short}
 use borrow.Author.Needs.{needs}
 use Rattle.dimacs.proofs.judge.judge.Statement.{statement}
 use Rattle.dimacs.proofs.judge.judge.Tie as tie
@@ -22,14 +24,14 @@ returns-3 c =
 returns-4 : tie.Need-returns-4
 unfolding judged
 returns-4 c =
-    ap (judged (c .before .before .args .rules) (c .before .before .args .head) (c .before .before .args .taken .now) (c .before .before .args .line)) (sym (c .enum-told2 .given .1))
+    ap Refused (c .refusal-of .ensures) ∙ ap (judged (c .before .before .before .before .args .rules) (c .before .before .before .before .args .head) (c .before .before .before .before .args .taken .now) (c .before .before .before .before .args .line)) (sym (c .before .before .l3 .given .1))
 
 pub judge-spec : {M : Type 1} → statement M
 judge-spec =
     tie.close
     (tie.spec
     (λ c. search needs) (λ c. search needs) (λ c κs. search needs) (λ c. search needs) (λ c κs. search needs)
-    (λ c. search needs)
+    (λ c. search needs) (λ c κs. subst Short (c .before .l3 .given .1) (c .before .before .before .pre .1))
     returns
     returns-2
     returns-3

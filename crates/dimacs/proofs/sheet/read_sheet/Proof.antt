@@ -7,6 +7,7 @@ use Rattle.dimacs.specs.Judgement.{ended}
 use Rattle.dimacs.specs.Texts.{next}
 use Rattle.dimacs.specs.declared.format.Rules.{Rules}
 use Rattle.dimacs.proofs.Fairness.{fair-of}
+use Rattle.dimacs.proofs.WhichField.{short-line}
 use Rattle.dimacs.proofs.Reading.{Going, Turn, state, going-start, line-out, line-kept, line-problem, data-low, data-room, data-place, line-data, text-end, judged-out}
 use borrow.Author.Needs.{needs}
 use Rattle.dimacs.proofs.sheet.read_sheet.Statement.{statement}
@@ -42,7 +43,11 @@ loop-holds c = going-start _ _ _ _ (c .before .no-numbers .ensures) (c .no-numbe
 
 judge-requires : tie.Need-judge-requires Inv-loop μ-loop
 judge-requires c κs =
-    rw (c .before .rules-for .ensures) (fair-of (c .before .before .before .before .before .before .before .before .before .before .before .before .args .format) (c .before .before .before .before .before .before .before .before .before .before .before .before .pre .1) _ (c .before .before .before .before .before .before .before .before .loop .inv .nodes))
+    let d = c .before .before .before .before .before .before .before .before .before .before .before .before in (
+      rw (c .before .rules-for .ensures) (fair-of (d .args .format) (d .pre .1) _ (c .before .before .before .before .before .before .before .before .loop .inv .nodes)),
+      short-line (d .args .format) (d .args .text .now) (c .before .before .before .before .before .before .rest .result .now) (c .before .before .before .before .front .result .now) (c .before .before .before .before .before .before .before .before .loop .at) (c .before .before .before .before .before .first-at .result) _
+          (d .pre .0) (c .before .before .before .before .before .before .rest .ensures) (c .before .before .before .before .before .first-at .ensures .1) (c .before .before .before .before .front .ensures) (c .before .before .before .line-of .ensures),
+    )
 
 returns : tie.Need-returns Inv-loop μ-loop
 returns c =

@@ -7,7 +7,7 @@ use Rattle.scan.proofs.line.read_line.Tie as tie
 
 -- the line is not empty, its first field is no `c`, and the form's first field is cut out too
 letters : (c : tie.After-same-bytes2)
-    → Letters (c .before .before .before .before .before .before .before .before .before .before .before .before .args .problem .now) (c .before .before .before .before .before .before .before .before .before .before .before .before .args .s .now) (c .before .before .before .before .before .before .front .result .now) (c .before .front2 .result .now)
+    → Letters (c .before .before .before .before .before .before .before .before .before .before .before .before .args .data .now) (c .before .before .before .before .before .before .before .before .before .before .before .before .args .s .now) (c .before .before .before .before .before .before .front .result .now) (c .before .front2 .result .now)
 letters c =
     record {
       some = c .before .before .before .before .before .before .before .before .if1 .left;
@@ -29,33 +29,36 @@ returns-2 c =
 
 returns-3 : tie.Need-returns-3
 returns-3 c =
-    let args = c .before .before .before .before .before .before .before .before .before .before .before .before .before .before .before .before .before .args in
-    let b = c .before .before .before .before .before in
-    c .data-line .ensures ∙ (handed-on _ _ (c .before .enum-told .given .1) ∙ line-problem (args .problem .now) (args .data .now) (args .s .now) _ _ (letters b) _ (sym (b .same-bytes2 .ensures) ∙ c .before .before .before .before .if3 .taken) (c .before .before .before .read-fields .ensures))
+    let args = c .before .before .before .before .before .before .before .before .before .before .before .before .before .before .before .args in
+    let b = c .before .before .before in
+    c .data-line .ensures ∙ line-data (args .problem .now) (args .data .now) (args .s .now) _ _ (letters b) _ (sym (b .same-bytes2 .ensures) ∙ c .before .before .if3 .taken) (c .before .read-fields .ensures)
 
 returns-4 : tie.Need-returns-4
 returns-4 c =
-    let args = c .before .before .before .before .before .before .before .before .before .before .before .before .before .before .before .before .before .args in
-    let b = c .before .before .before .before .before in
-    ap problemLine (sym (c .before .f .given .1)) ∙ line-problem (args .problem .now) (args .data .now) (args .s .now) _ _ (letters b) _ (sym (b .same-bytes2 .ensures) ∙ c .before .before .before .before .if3 .taken) (c .before .before .before .read-fields .ensures)
+    let d = c .before .before .before .before .before in
+    let b = d .before .before .before .before in
+    let args = b .before .before .before .before .before .before .before .before .before .before .before .before .args in
+    let not-q = sym (b .same-bytes2 .ensures) ∙ d .before .before .before .if3 .left in
+    let letter-p = first-field _ _ _ (d .before .before .first-at3 .ensures .0) (d .before .front3 .ensures) in
+    c .data-line2 .ensures ∙ (handed-on _ _ (c .before .enum-told .given .1) ∙ line-problem (args .problem .now) (args .data .now) (args .s .now) _ _ (letters b) not-q _ letter-p _ (sym (d .same-bytes3 .ensures) ∙ c .before .before .before .before .if4 .taken) (c .before .before .before .read-fields2 .ensures))
 
 returns-5 : tie.Need-returns-5
 returns-5 c =
-    let args = c .before .before .before .before .before .before .before .before .before .before .before .before .before .before .before .before .before .before .before .args in
-    let b = c .before .before .before .before .before .before .before in
-    let d = c .before .before .before in
-    let not-p = sym (b .same-bytes2 .ensures) ∙ c .before .before .before .before .before .before .if3 .left in
-    let letter-q = first-field _ _ _ (d .before .before .first-at3 .ensures .0) (d .before .front3 .ensures) in
-    c .data-line2 .ensures ∙ line-data (args .problem .now) (args .data .now) (args .s .now) _ _ (letters b) not-p _ letter-q _ (sym (d .same-bytes3 .ensures) ∙ c .before .before .if4 .taken) (c .before .read-fields2 .ensures)
+    let d = c .before .before .before .before .before in
+    let b = d .before .before .before .before in
+    let args = b .before .before .before .before .before .before .before .before .before .before .before .before .args in
+    let not-q = sym (b .same-bytes2 .ensures) ∙ d .before .before .before .if3 .left in
+    let letter-p = first-field _ _ _ (d .before .before .first-at3 .ensures .0) (d .before .front3 .ensures) in
+    ap problemLine (sym (c .before .f .given .1)) ∙ line-problem (args .problem .now) (args .data .now) (args .s .now) _ _ (letters b) not-q _ letter-p _ (sym (d .same-bytes3 .ensures) ∙ c .before .before .before .before .if4 .taken) (c .before .before .before .read-fields2 .ensures)
 
 returns-6 : tie.Need-returns-6
 returns-6 c =
-    let args = c .before .before .before .before .before .before .before .before .before .before .before .before .before .before .before .before .before .args in
-    let b = c .before .before .before .before .before in
     let d = c .before in
-    let not-p = sym (b .same-bytes2 .ensures) ∙ c .before .before .before .before .if3 .left in
-    let letter-q = first-field _ _ _ (d .before .before .first-at3 .ensures .0) (d .before .front3 .ensures) in
-    line-none (args .problem .now) (args .data .now) (args .s .now) _ _ (letters b) not-p _ letter-q (sym (d .same-bytes3 .ensures) ∙ c .if4 .left)
+    let b = d .before .before .before .before in
+    let args = b .before .before .before .before .before .before .before .before .before .before .before .before .args in
+    let not-q = sym (b .same-bytes2 .ensures) ∙ d .before .before .before .if3 .left in
+    let letter-p = first-field _ _ _ (d .before .before .first-at3 .ensures .0) (d .before .front3 .ensures) in
+    line-none (args .problem .now) (args .data .now) (args .s .now) _ _ (letters b) not-q _ letter-p (sym (d .same-bytes3 .ensures) ∙ c .if4 .left)
 
 pub read-line-spec : {M : Type 1} → statement M
 read-line-spec =
@@ -64,10 +67,10 @@ read-line-spec =
     returns
     (λ c κs. search needs) (λ c κs. search needs) (λ c. search needs) (λ c κs. search needs)
     returns-2
+    (λ c κs. search needs) (λ c κs. search needs) (λ c κs. search needs) (λ c κs. search needs) (λ c κs. search needs)
+    returns-3
     (λ c κs. search needs) (λ c κs. search needs) (λ c κs. search needs) (λ c κs. search needs) (λ c. search needs)
     (λ c. search needs) (λ c κs. search needs)
-    returns-3
     returns-4
-    (λ c κs. search needs) (λ c κs. search needs) (λ c κs. search needs) (λ c κs. search needs) (λ c κs. search needs)
     returns-5
     returns-6)
