@@ -13,11 +13,11 @@ use Rattle.walks.specs.Walk.{Net}
 use Rattle.walks.specs.Rows.{Rows, laid, network}
 use Rattle.walks.specs.Through.{InS, Consistent}
 use Rattle.geometry.specs.Box.{Within}
-use Rattle.geometry.specs.Row.{coordinate}
+use Rattle.geometry.specs.Row.{coordinate, Shaped}
 use Rattle.drawing.specs.Drawn.{Drawn, boxRow}
 use Rattle.boxwork.specs.Tight.{Tight, Updated, HoldsNode}
 use Rattle.boxwork.specs.Says.{Builds, Checks, Updates, CheckSays}
-use Rattle.judging.proofs.StageLaws.{BoxesLent as Lent, Shaped, lent-after}
+use Rattle.judging.proofs.StageLaws.{BoxesLent as Lent, lent-after}
 use Rattle.judging.proofs.FineLaws.{shaped-judged}
 use Rattle.boxwork.proofs.TightLaws.{inS-range, tight-holds, tight-shaped, updated-holds, updated-shaped}
 
@@ -61,5 +61,5 @@ module _ {n m : ℕ} {R : Rows} {x y boxes : List ℤ} (l : Lent n m R x y boxes
   pub updated-accepted : {after : List ℤ} → Shaped m boxes → Drawn boxRow m (Updated (network m R) x y) boxes after → CheckSays n m R x y after (accepted [])
   updated-accepted {after} shaped d =
       Checks.consistent
-      (shaped-judged n m R x y after (lent-after (d .long) l) (λ e low high. updated-shaped (head-within e low high) (nodes-within e) (shaped e low high) (d .entries e low high)))
+      (shaped-judged n m R x y after (lent-after (d .long) l) (λ e low high. updated-shaped (head-within e low high) (nodes-within e) (shaped .each e low high) (d .entries e low high)))
       (record { keeps = λ e t i. let r = inS-range (l .sound) i in updated-holds (d .entries e (r .0) (r .1)) i })

@@ -147,4 +147,4 @@ updated-says n {m} R {x = x} {y = y} {before = before} arc weight closure fine w
     let u = update-fine n m R x y before arc weight closure fine in
     let k = check-fine n m R x y before (u .0) in
     let sound = sound-changed (build-fine n m R x y before (k .0) .sound) arc weight closure (u .1) (u .2) (u .3) in
-    rw wrote (Updates.updated fine (updated-by sound x y (rw wrote at all) (λ e low high. k .1 e low high .upright) heads))
+    rw wrote (Updates.updated fine (updated-by sound x y (rw wrote at all) (λ e low high. k .1 .each e low high .upright) heads))

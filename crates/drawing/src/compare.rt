@@ -1,6 +1,7 @@
 // Boxes compared with the places that they must hold.
-ghost use Prim.Native.Nat.{_*_, _≤_};
+ghost use Prim.Native.Nat.{_≤_};
 ghost use lib.ListN.{length};
+ghost use Rattle.geometry.specs.Row.{Shaped};
 ghost use Rattle.walks.specs.Rows.{rows, Sound};
 ghost use Rattle.drawing.specs.Drawn.{markOf};
 ghost use Rattle.drawing.specs.Missed.{missesPlace, missesNode, BeforeFirst, IsFirst};
@@ -15,7 +16,7 @@ pub enum Miss {
 
 // How many of the arcs 1..k stand before the first that is marked and whose box does not hold the place.
 fn before_miss(marked: &[bool; 2048], px: i32, py: i32, k: usize, boxes: &[i32]) -> usize
-    requires { ⌜ (k ≤ 2048) × (4 * k ≤ length (now boxes)) ⌝ }
+    requires { ⌜ (k ≤ 2048) × Shaped k (now boxes) ⌝ }
     ensures { λ r. ⌜ BeforeFirst (missesPlace (markOf (now (marked .entry))) (now (boxes .entry)) px py) k r ⌝ }
 {
     let mut e: usize = 0;
@@ -43,7 +44,7 @@ pub fn find_miss(
     y: &[i32],
     boxes: &[i32],
 ) -> Miss
-    requires { ⌜ Sound n m (rows (now tails) (now heads) (now weights) (now closures)) × (n ≤ length (now x)) × (n ≤ length (now y)) × (4 * m ≤ length (now boxes)) ⌝ }
+    requires { ⌜ Sound n m (rows (now tails) (now heads) (now weights) (now closures)) × (n ≤ length (now x)) × (n ≤ length (now y)) × Shaped m (now boxes) ⌝ }
     ensures { λ r. ⌜ IsFirst (missesNode (rows (now (tails .entry)) (now (heads .entry)) (now (weights .entry)) (now (closures .entry))) n m (now (boxes .entry)) (now (x .entry)) (now (y .entry))) n m r ⌝ }
 {
     let mut first = [m as u32; 512];

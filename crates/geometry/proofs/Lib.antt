@@ -3,3 +3,4 @@ pub mod Signed
 pub mod Tests
 pub mod SmallestLaws
 pub mod RowLaws
+pub mod Wrapping

@@ -9,7 +9,7 @@ use lib.IntN.{ℤ}
 use lib.ListN.{length, set, length-set}
 use lib.Seq.{getD-set-same, getD-set-other}
 use Rattle.geometry.specs.Box.{Box}
-use Rattle.geometry.specs.Row.{number, boxFrom, putFrom, boxOf, withBox}
+use Rattle.geometry.specs.Row.{number, boxFrom, putFrom, boxOf, withBox, Shaped}
 use Rattle.geometry.proofs.SmallestLaws.{same-box}
 
 -- a stored box keeps every other place
@@ -72,3 +72,9 @@ with-other row arc other b low low′ differ =
 -- so is every place past the arc's box
 pub with-past : (row : List ℤ) (arc : ℕ) (b : Box) (i : ℕ) → 1 ≤ arc → 4 * arc ≤ i → number (withBox row arc b) i ≡ number row i
 with-past row arc b i low high = put-kept row (4 * (arc - 1)) b i (inr (omega arith))
+
+-- ---- Well-shaped boxes
+
+-- those of fewer arcs
+pub shaped-fewer : {row : List ℤ} {m k : ℕ} → k ≤ m → Shaped m row → Shaped k row
+shaped-fewer h s = record { long = omega (arith, s .long); each = λ arc low high. s .each arc low (omega arith) }

@@ -14,7 +14,7 @@ use Rattle.geometry.proofs.Order.{≤ℤ-trans}
 le-yes : {a b : ℤ} → leZ a b ≡ true → a ≤ℤ b
 le-yes e = record { le = subst T (sym e) tt }
 
-yes-le : (a b : ℤ) → a ≤ℤ b → leZ a b ≡ true
+pub yes-le : (a b : ℤ) → a ≤ℤ b → leZ a b ≡ true
 yes-le a b h = is (leZ a b) (h .le)
   where
     is : (t : Bool) → T t → t ≡ true

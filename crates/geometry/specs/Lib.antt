@@ -1,3 +1,4 @@
 pub mod Box
 pub mod Hull
 pub mod Row
+pub mod Shifted

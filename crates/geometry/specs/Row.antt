@@ -1,10 +1,10 @@
 -- Coordinates and boxes in rows. Nodes and arcs are numbered from 1; boxes are one row of four numbers an arc, in
 -- order: left, right, low, high.
-use Prim.Native.Nat.{ℕ, _+_, _-_, _*_}
+use Prim.Native.Nat.{ℕ, _+_, _-_, _*_, _≤_}
 use mathlib.Core.List.{List}
 use lib.IntN.{ℤ, pos}
-use lib.ListN.{getD, set}
-use Rattle.geometry.specs.Box.{Box}
+use lib.ListN.{length, getD, set}
+use Rattle.geometry.specs.Box.{Box, WellShaped}
 
 -- what stands at a place of a row, counted from 0
 abbrev pub number : List ℤ → ℕ → ℤ
@@ -27,3 +27,8 @@ boxOf row arc = boxFrom row (4 * (arc - 1))
 
 abbrev pub withBox : List ℤ → ℕ → Box → List ℤ
 withBox row arc b = putFrom row (4 * (arc - 1)) b
+
+-- the row holds the boxes of the arcs 1..m, and each is well shaped
+pub record Shaped (m : ℕ) (row : List ℤ) : Type 0 where
+  pub long : 4 * m ≤ length row
+  pub each : (arc : ℕ) → 1 ≤ arc → arc ≤ m → WellShaped (boxOf row arc)

@@ -1,19 +1,39 @@
 // Boxes over lent rows of coordinates. Nodes and arcs are numbered from 1; the box of an arc is four numbers of
 // the row: left, right, low, high.
 ghost use mathlib.Core.Path.{_≡_};
+ghost use mathlib.Core.Bool.{_&&_};
 ghost use Prim.Native.Nat.{_+_, _*_, _≤_, _<_};
 ghost use lib.ListN.{length};
-ghost use Rattle.geometry.specs.Box.{holdsB};
+ghost use lib.Signed.{leZ};
+ghost use Rattle.geometry.specs.Box.{WellShaped, holdsB};
 ghost use Rattle.geometry.specs.Hull.{smaller, larger, placeBox, grown};
 ghost use Rattle.geometry.specs.Row.{number, putFrom, boxOf, withBox};
+ghost use Rattle.geometry.specs.Shifted.{shifted, Span};
+use std::num::wrapping_sub_u32;
 
-// Whether the box of an arc holds the place (x, y).
+// A coordinate shifted to be unsigned, which keeps the order.
+fn shift(z: i32) -> u32
+    ensures { λ r. ⌜ r ≡ shifted z ⌝ }
+{
+    (z as i64 + 2147483648) as u32
+}
+
+// Whether a coordinate is from one side to the other, by one comparison: less the first side, wrapping, it is below the width.
+fn between(from: i32, to: i32, z: i32) -> bool
+    requires { ⌜ Span from to ⌝ }
+    ensures { λ r. ⌜ r ≡ leZ from z && leZ z to ⌝ }
+{
+    let start = shift(from);
+    wrapping_sub_u32(shift(z), start) < wrapping_sub_u32(shift(to) + 1, start)
+}
+
+// Whether the box of an arc, which is well shaped, holds the place (x, y).
 pub fn holds(boxes: &[i32], arc: usize, x: i32, y: i32) -> bool
-    requires { ⌜ (1 ≤ arc) × (4 * arc ≤ length (now boxes)) ⌝ }
+    requires { ⌜ (1 ≤ arc) × (4 * arc ≤ length (now boxes)) × WellShaped (boxOf (now boxes) arc) ⌝ }
     ensures { λ r. ⌜ r ≡ holdsB (boxOf (now (boxes .entry)) arc) x y ⌝ }
 {
     let at = 4 * (arc - 1);
-    (boxes[at] <= x) & (x <= boxes[at + 1]) & (boxes[at + 2] <= y) & (y <= boxes[at + 3])
+    between(boxes[at], boxes[at + 1], x) & between(boxes[at + 2], boxes[at + 3], y)
 }
 
 // The smaller and the larger of a number of a row and another.

@@ -13,11 +13,17 @@ use Rattle.rules.specs.Judging.{passes}
 use Rattle.rules.specs.declared.Refusal.the-variants.{NotInNetwork}
 use Rattle.rules.proofs.AndLaws.{and-true, same-test}
 use Rattle.rules.proofs.JudgingLaws.{both-fine, passed, each-passes, each-fine}
-use Rattle.geometry.specs.Row.{boxOf}
+use Rattle.geometry.specs.Box.{WellShaped}
+use Rattle.geometry.specs.Row.{boxOf, Shaped}
 use Rattle.geometry.proofs.Tests.{shaped-yes, yes-shaped}
 use Rattle.walks.specs.Rows.{Rows, Sound}
 use Rattle.judging.specs.Order.{shapes, ends, reweighing, change, networkJudged, searchedBy, shapedBy, searchJudged, boxedJudged, buildJudged, checkJudged, updateJudged}
-use Rattle.judging.proofs.StageLaws.{network-fine, BoxesLent, Shaped, placed-fine, shaped-parts, placed-judged, shaped-adds-nothing}
+use Rattle.judging.proofs.StageLaws.{network-fine, BoxesLent, placed-fine, shaped-parts, placed-judged, shaped-adds-nothing}
+
+-- the boxes that were judged are well shaped
+shapes-fine : (m : ℕ) (boxes : List ℤ) → 4 * m ≤ length boxes → shapes m boxes ≡ Fine → Shaped m boxes
+shapes-fine m boxes long e =
+    record { long = long; each = λ i low high. shaped-yes (boxOf boxes i) (each-passes _ _ m e i low high) }
 
 -- ---- The searches
 
@@ -52,13 +58,14 @@ module _ (n m : ℕ) (R : Rows) (s t places : ℕ) where
       search-lent (q .0) (q .1) (both-fine (ends n s t) Fine (p .1) .0)
 
   pub boxed-fine : (x y boxes : List ℤ) → boxedJudged n m R x y boxes s t places ≡ Fine
-      → SearchLent n m R s t places × (n ≤ length x) × (n ≤ length y) × (4 * m ≤ length boxes)
+      → SearchLent n m R s t places × (n ≤ length x) × (n ≤ length y) × Shaped m boxes
   unfolding searchedBy boxedJudged
   boxed-fine x y boxes e =
       let p = both-fine (shapedBy (networkJudged n m R) n m x y boxes (leb n places)) _ e in
-      let q = placed-fine n m R x y boxes (leb n places) (shaped-parts (networkJudged n m R) n m x y boxes (leb n places) (p .0) .0) in
+      let r = shaped-parts (networkJudged n m R) n m x y boxes (leb n places) (p .0) in
+      let q = placed-fine n m R x y boxes (leb n places) (r .0) in
       let l = q .0 in
-      (search-lent (l .sound) (q .1) (both-fine (ends n s t) Fine (p .1) .0), l .x-long, l .y-long, l .boxes-long)
+      (search-lent (l .sound) (q .1) (both-fine (ends n s t) Fine (p .1) .0), l .x-long, l .y-long, shapes-fine m boxes (l .boxes-long) (r .1))
 
 -- ---- The box work
 
@@ -71,7 +78,7 @@ module _ (n m : ℕ) (R : Rows) (x y boxes : List ℤ) where
   unfolding buildJudged checkJudged
   check-fine e =
       let p = shaped-parts (networkJudged n m R) n m x y boxes true e in
-      (p .0, λ i low high. shaped-yes (boxOf boxes i) (each-passes _ _ m (p .1) i low high))
+      (p .0, shapes-fine m boxes (placed-fine n m R x y boxes true (p .0) .0 .boxes-long) (p .1))
 
   pub update-fine : (arc weight closure : ℕ) → updateJudged n m R x y boxes arc weight closure ≡ Fine
       → (checkJudged n m R x y boxes ≡ Fine) × (1 ≤ arc) × (arc ≤ m) × (weight ≤ 1_000_000) × (closure ≤ 1)
@@ -86,7 +93,7 @@ module _ (n m : ℕ) (R : Rows) (x y boxes : List ℤ) where
       let k = passed (leb closure 1) _ (both-fine _ Fine (r .1) .0) in
       (p .0, leb-true 1 arc (a .0), leb-true arc m (a .1), leb-true weight 1_000_000 w, leb-true closure 1 k)
 
-  pub shaped-judged : BoxesLent n m R x y boxes → Shaped m boxes → checkJudged n m R x y boxes ≡ Fine
+  pub shaped-judged : BoxesLent n m R x y boxes → ((e : ℕ) → 1 ≤ e → e ≤ m → WellShaped (boxOf boxes e)) → checkJudged n m R x y boxes ≡ Fine
   unfolding checkJudged shapedBy
   shaped-judged l h =
       let good : shapes m boxes ≡ Fine = each-fine _ _ m (λ e low high. yes-shaped (boxOf boxes e) (h e low high)) in

@@ -12,8 +12,8 @@ use Rattle.rules.specs.declared.Judged.{Judged}
 use Rattle.rules.specs.declared.Judged.the-variants.{Fine}
 use Rattle.rules.proofs.AndLaws.{and-true, and-yes}
 use Rattle.rules.proofs.JudgingLaws.{both-fine, nothing-follows, passed, each-passes, each-fine}
-use Rattle.geometry.specs.Box.{Within, WellShaped}
-use Rattle.geometry.specs.Row.{coordinate, boxOf}
+use Rattle.geometry.specs.Box.{Within}
+use Rattle.geometry.specs.Row.{coordinate}
 use Rattle.geometry.proofs.Tests.{place-yes, yes-within}
 use Rattle.walks.specs.Rows.{Rows, rows, Sound, SoundArc, at}
 use Rattle.judging.specs.Order.{sizes, lengths, arcRowsLong, boxRowsLong, goodArc, arcs, closures, coordinates, shapes, arcsJudged, networkJudged, placedBy, shapedBy}
@@ -160,10 +160,6 @@ lent-after long l = record {
   boxes-long = omega (arith, l .boxes-long);
   places = l .places;
 }
-
--- the boxes of the arcs 1..m are well shaped
-abbrev pub Shaped : ℕ → List ℤ → Type 0
-Shaped m boxes = (e : ℕ) → 1 ≤ e → e ≤ m → WellShaped (boxOf boxes e)
 
 -- for any judgement of a network: what is fine together is fine each
 module _ (judged : Bool → Judged) (n m : ℕ) (x y boxes : List ℤ) (others : Bool) where

@@ -4,6 +4,7 @@ use native.Mathlib.Omega.{arith}
 use mathlib.Core.List.{List}
 use lib.IntN.{ℤ}
 use Rattle.frontier.specs.Chain.{Ends}
+use Rattle.geometry.proofs.RowLaws.{shaped-fewer}
 use Rattle.walks.specs.Rows.{Rows, Sound}
 use Rattle.walks.proofs.RowsLaws.{arc-at, turned-sound}
 use Rattle.settling.specs.declared.Toward.{Toward}
@@ -36,7 +37,7 @@ tails-ends s = record {
 pub heads-ends : {n m : ℕ} {R : Rows} → Sound n m R → Ends m (R .heads)
 heads-ends s = tails-ends (turned-sound s)
 
--- a row that holds the boxes of m arcs holds that of each
+-- a row that serves m arcs serves each of them
 pub room-less : (toward : Toward) (boxes : List ℤ) (m e : ℕ) → e ≤ m → Room toward m boxes → Room toward e boxes
 room-less Anywhere boxes m e h r = tt
-room-less (Place x y) boxes m e h r = omega arith
+room-less (Place x y) boxes m e h r = shaped-fewer h r

@@ -96,7 +96,7 @@ module _ (n m : ℕ) (R : Rows) (x y boxes : List ℤ) where
         let k = check-fine n m R x y boxes (u .0) in
         let l = build-fine n m R x y boxes (k .0) in
         let sound = sound-changed (l .sound) arc weight closure (u .1) (u .2) (u .3) in
-        Updates.updated e (drawn-to (mendedOf n m (changed R arc weight closure) x y) m boxes (l .boxes-long) (λ i low high. updated-made sound x y i low high (k .1 i low high .upright)))
+        Updates.updated e (drawn-to (mendedOf n m (changed R arc weight closure) x y) m boxes (l .boxes-long) (λ i low high. updated-made sound x y i low high (k .1 .each i low high .upright)))
 
     pub update-told : let told = updateTold n m R x y boxes arc weight closure in
         UpdateSays n m R x y boxes arc weight closure (told .reply) (rows (R .tails) (R .heads) (told .numbers) (told .closures)) (told .boxes)

@@ -1,11 +1,11 @@
 -- `search::search_boxed` meets its contract: refused as judged, or answered over the arcs whose box holds t.
-use Prim.Native.Nat.{_*_, _≤_}
+use Prim.Native.Nat.{_≤_}
 use mathlib.Core.Path.{sym, _∙_}
 use native.Mathlib.Omega.{arith}
 use borrow.Author.Needs.{needs}
 use lib.ListN.{length}
 use Rattle.geometry.proofs.Signed.{back}
-use Rattle.geometry.specs.Row.{coordinate}
+use Rattle.geometry.specs.Row.{coordinate, Shaped}
 use Rattle.walks.specs.Rows.{rows}
 use Rattle.search.specs.Says.{refused, answered}
 use Rattle.judging.proofs.FineLaws.{SearchLent, boxed-fine}
@@ -20,7 +20,7 @@ fine :
     SearchLent (a .n) (a .m) (rows (a .tails .now) (a .heads .now) (a .weights .now) (a .closures .now)) (a .s) (a .t) (length (a .route .now))
     × (a .n ≤ length (a .x .now))
     × (a .n ≤ length (a .y .now))
-    × (4 * a .m ≤ length (a .boxes .now))
+    × Shaped (a .m) (a .boxes .now)
 fine c = boxed-fine _ _ _ _ _ _ _ _ _ (sym (c .before .before .judge-boxed .ensures) ∙ c .enum-told .given .1)
 
 sub-at : tie.Need-sub-at

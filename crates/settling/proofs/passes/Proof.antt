@@ -1,9 +1,9 @@
 -- `settling::passes` meets its contract: a closed arc is shut, and the box test is geometry's, at the place that the search goes toward.
-use Prim.Native.Nat.{ℕ, _*_, _≤_}
+use Prim.Native.Nat.{ℕ}
 use mathlib.Core.Path.{_≡_, refl, sym, _∙_}
 use mathlib.Core.Bool.{Bool, true, false}
 use mathlib.Core.List.{List}
-use lib.ListN.{length}
+use native.Mathlib.Omega.{arith}
 use lib.IntN.{ℤ}
 use mir.Syntax.{w32}
 use mir.Val.{SFits, ofZ, toZ}
@@ -13,7 +13,7 @@ use borrow.Author.Tests.{eq-eqb, ne-eqb}
 use Rattle.rules.proofs.AndLaws.{and-yes}
 use Rattle.walks.specs.Rows.{at}
 use Rattle.geometry.specs.Box.{holdsB}
-use Rattle.geometry.specs.Row.{boxOf}
+use Rattle.geometry.specs.Row.{boxOf, Shaped}
 use Rattle.settling.specs.declared.Toward.{Toward}
 use Rattle.settling.specs.declared.Toward.the-variants.{Anywhere, Place}
 use Rattle.settling.specs.Toward.{Room, keeps}
@@ -34,8 +34,8 @@ module _ (closures : List ℕ) (boxes : List ℤ) (e : ℕ) where
         → r ≡ holdsB (boxOf boxes e) (toZ w32 (ofZ w32 x)) (toZ w32 (ofZ w32 y)) → r ≡ keeps toward closures boxes e
     held x y place fx fy h = rw place (rw (toZ-ofZ fx, toZ-ofZ fy) at h ∙ sym (and-yes (eq-eqb _ 0 unlocked) refl))
 
-room : (toward : Toward) (x y : ℤ) → toward ≡ Place x y → (e : ℕ) (boxes : List ℤ) → Room toward e boxes → 4 * e ≤ length boxes
-room toward x y place e boxes h = rw place at h
+asked : (toward : Toward) (x y : ℤ) → toward ≡ Place x y → (e : ℕ) (boxes : List ℤ) → Room toward e boxes → Shaped e boxes
+asked toward x y place e boxes h = rw place at h
 
 returns : tie.Need-returns
 returns c = let a = c .before .before .before .args in shut (a .closures .now) (a .boxes .now) (a .e) (a .toward) (c .if1 .taken)
@@ -44,7 +44,8 @@ holds-requires : tie.Need-holds-requires
 holds-requires c κs =
     let s = c .before .before .before .before .before .before in
     let g = c .before .toward .given in
-    (s .pre .0, room (s .args .toward) _ _ (g .1) (s .args .e) (s .args .boxes .now) (s .pre .2))
+    let b = asked (s .args .toward) _ _ (g .1) (s .args .e) (s .args .boxes .now) (s .pre .2) in
+    (s .pre .0, b .long, b .each (s .args .e) (s .pre .0) (omega arith))
 
 returns-2 : tie.Need-returns-2
 returns-2 c =

@@ -1,6 +1,6 @@
 -- `drawing::compare::before_miss` meets its contract.
 -- The loop's invariant: the boxes of the arcs up to e miss nothing.
-use Prim.Native.Nat.{ℕ, _-_, _≤_}
+use Prim.Native.Nat.{ℕ, _+_, _-_, _≤_}
 use mathlib.Core.Path.{_≡_, sym, _∙_, ap}
 use mathlib.Core.Bool.{false, not}
 use native.Mathlib.Omega.{arith}
@@ -25,6 +25,12 @@ abbrev μ-loop : tie.MeasureT-loop
 
 loop-holds : tie.Need-loop-holds Inv-loop μ-loop
 loop-holds c = (omega arith, λ i low high. absurd (omega arith))
+
+holds-requires : tie.Need-holds-requires Inv-loop μ-loop
+holds-requires c κs =
+    let boxes = c .before .before .before .before .pre .1 in
+    let l = c .before .before .before .loop in
+    (omega arith, omega (arith, boxes .long), boxes .each (l .e + 1) (omega arith) (omega arith))
 
 returns : tie.Need-returns Inv-loop μ-loop
 returns c =
@@ -64,7 +70,8 @@ before-miss-spec =
     Inv-loop
     μ-loop
     loop-holds
-    (λ c. search needs) (λ c. search needs) (λ c κs. search needs)
+    (λ c. search needs) (λ c. search needs)
+    holds-requires
     returns
     (λ c. search needs)
     loop-again

@@ -9,6 +9,7 @@ use lib.ListN.{length, length-replicate}
 use Rattle.walks.specs.Rows.{rows}
 use Rattle.geometry.specs.Row.{number}
 use Rattle.geometry.proofs.Signed.{back}
+use Rattle.geometry.proofs.RowLaws.{shaped-fewer}
 use Rattle.settling.proofs.Widen.{heads-ends}
 use Rattle.drawing.specs.Missed.{missesNode}
 use Rattle.drawing.proofs.MissedLaws.{Lower, lower-none, lower-here, lower-stays, lower-found, lower-nowhere, before-node}
@@ -37,8 +38,8 @@ mark-toward-requires c κs =
 before-miss-requires : tie.Need-before-miss-requires Inv-loop μ-loop
 before-miss-requires c κs =
     let most = c .before .before .before .before .before .before .before .before .loop .inv .2 .most in
-    let high = c .before .before .before .before .before .before .before .before .before .before .before .before .before .before .before .before .pre .0 .arcs-high in
-    (omega arith, omega arith)
+    let p = c .before .before .before .before .before .before .before .before .before .before .before .before .before .before .before .before .pre in
+    (omega (arith, p .0 .arcs-high), shaped-fewer most (p .3))
 
 loop-again : tie.Need-loop-again Inv-loop μ-loop
 loop-again c =
