@@ -4,6 +4,7 @@
 use crate::boxes::{missed, tight, Place, Rectangle};
 use crate::lent::{fill, Lent};
 use crate::network::{self, open, Arc, Found};
+use crate::reasons::{reason, Reason};
 use crate::refusals::{refused, Refusal};
 use crate::sizes::*;
 
@@ -71,6 +72,14 @@ fn judge_ends(lent: &Lent, s: i64, t: i64) -> Result<(usize, usize), Refusal> {
     Ok((s as usize, t as usize))
 }
 
+/// The place of an arc in its rows, after refusal 11.
+fn judge_arc(lent: &Lent, arc: i64) -> Result<usize, Refusal> {
+    if !(1..=lent.m).contains(&arc) {
+        return refused(11, &[]);
+    }
+    Ok(arc as usize - 1)
+}
+
 /// The rows that box work needs besides those of the network.
 fn box_rows(lent: &Lent) -> [(&Vec<i64>, i64); 3] {
     [(&lent.x, lent.n), (&lent.y, lent.n), (&lent.boxes, 4 * lent.m)]
@@ -99,6 +108,14 @@ pub fn boxed(lent: &mut Lent, s: i64, t: i64) -> Result<Found, Refusal> {
     let (s, t) = judge_ends(lent, s, t)?;
     let holding: Vec<Arc> = arcs.into_iter().filter(|arc| boxes[arc.number - 1].holds(places[t])).collect();
     search_among(lent, &holding, s, t)
+}
+
+/// Why the arc is not on the route of a search without boxes. No route row is lent.
+pub fn why(lent: &Lent, s: i64, t: i64, arc: i64) -> Result<Reason, Refusal> {
+    let arcs = judge_network(lent, &[])?;
+    let (s, t) = judge_ends(lent, s, t)?;
+    let e = judge_arc(lent, arc)?;
+    reason(lent.n as usize, &arcs, s, t, &arcs[e])
 }
 
 fn write_boxes(lent: &mut Lent, boxes: &[Rectangle]) {
@@ -130,16 +147,13 @@ pub fn update(lent: &mut Lent, arc: i64, weight: i64, byte: i64) -> Result<(), R
     let mut arcs = judge_network(lent, &box_rows(lent))?;
     let places = judge_places(lent)?;
     let old = judge_boxes(lent)?;
-    if !(1..=lent.m).contains(&arc) {
-        return refused(11, &[]);
-    }
+    let e = judge_arc(lent, arc)?;
     if !is_weight(weight) {
         return refused(5, &[0]);
     }
     if !is_closure(byte) {
         return refused(14, &[arc]);
     }
-    let e = arc as usize - 1;
     (arcs[e].weight, arcs[e].closed) = (weight, byte == 1);
     (lent.weights[e], lent.closed[e]) = (weight, byte);
     let tight = tight(lent.n as usize, &arcs, &places);

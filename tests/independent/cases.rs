@@ -87,24 +87,35 @@ fn some_calls(random: &mut Random, asked: &Asked, count: usize) -> Vec<String> {
     (0..count).map(|_| calls.swap_remove(random.below(calls.len()))).collect()
 }
 
+/// A driver asks, from the start of one arc to the end of another, why not by either and by a third.
+fn some_whys(random: &mut Random, lent: &Lent) -> Vec<String> {
+    if lent.m == 0 {
+        return vec![];
+    }
+    let arcs = [0; 3].map(|_| random.between(1, lent.m));
+    let (s, t) = (lent.tails[arcs[0] as usize - 1], lent.heads[arcs[1] as usize - 1]);
+    arcs.map(|arc| format!("why {s} {t} {arc}")).to_vec()
+}
+
 /// A small case of any kind. `name` is for its files.
 pub fn small(random: &mut Random, name: &str) -> Case {
     match random.below(24) {
         0..=2 => text_case(random, name),
-        3..=5 => slip_case(random, name),
-        6 | 7 => talk_case(random),
-        8..=10 => write_case(random, name),
-        11..=14 => update_case(random),
+        3..=6 => slip_case(random, name),
+        7 | 8 => talk_case(random),
+        9..=11 => write_case(random, name),
+        12..=15 => update_case(random),
         _ => call_case(random),
     }
 }
 
-/// Calls on a small plan, spoilt in some things or in none, with all rows shown after each.
+/// Calls on a small plan, spoilt in some things or in none. A driver asks why first; all rows are shown after each other call.
 pub fn call_case(random: &mut Random) -> Case {
     let (nodes, arcs) = if random.once_in(50) { (60, 200) } else { (7, 14) };
     let (n, m) = (random.between(1, nodes), random.between(0, arcs));
     let mut lent = plan(random, n, m);
     let mut asked = ask(random, &lent);
+    let whys = some_whys(random, &lent);
     change_boxes(random, &mut lent);
     add_surplus(random, &mut lent);
     for _ in 0..random.pick(&[0, 0, 0, 1, 1, 2, 3]) {
@@ -112,6 +123,8 @@ pub fn call_case(random: &mut Random) -> Case {
     }
     let mut case = Case::default();
     case.lend(&lent);
+    case.say(format!("why {} {} {}", asked.s, asked.t, asked.arc));
+    whys.iter().for_each(|line| case.say(line));
     let count = random.pick(&[1, 2, 2, 3]);
     for call in some_calls(random, &asked, count) {
         case.say(call);
@@ -289,7 +302,7 @@ pub fn write_case(random: &mut Random, name: &str) -> Case {
 
 /// Lines that are no commands, or that name numbers at the ends of their types.
 #[rustfmt::skip]
-pub const ODD_LINES: [&[u8]; 85] = [
+pub const ODD_LINES: [&[u8]; 97] = [
     b"", b" ", b"\t", b"\r", b"  ", b" n 1", b"n 1 ", b"n  1", b"n\t1", b"n 1\r", b"n\r", b" \r",
     b"N 1", b"nn 1", b"1", b"?", b"n", b"m", b"n 1 2", b"n 01", b"n -1", b"n -0", b"n +1", b"n x", b"n 0",
     b"m 4294967295", b"m 4294967296", b"n 18446744073709551617", b"m 1x",
@@ -304,6 +317,8 @@ pub const ODD_LINES: [&[u8]; 85] = [
     b"update 1 1", b"update 1 1 0 boxes", b"update 1 1 256", b"update 1 1 4294967296", b"update 1 1 -1",
     b"update x 4294967296 256", b"update 1 4294967296 x", b"update 1 1 01", b"update 1 1 255",
     b"lend closed 256", b"lend closed 255 2 1 0", b"show closed 4097",
+    b"why", b"why 1 1", b"why 1 1 1 1", b"why 1 1 x", b"why 01 1 1", b"why 1 -1 1", b"why 1 1 4294967296",
+    b"why 4294967296 x 1", b"why x 4294967296 1", b"why 4294967295 4294967295 4294967295", b"why 1 1 1 boxes", b"Why 1 1 1",
 ];
 
 /// A row of more numbers than the console has places for; the last is misspelt, which comes second.
@@ -328,7 +343,7 @@ fn talk_case(random: &mut Random) -> Case {
             _ => case.lines.insert(at, random.pick(&ODD_LINES).to_vec()),
         }
     }
-    if random.once_in(40) {
+    if random.once_in(20) {
         case.lines.insert(1, long_row(random.below(ROWS.len())));
     }
     case

@@ -4,7 +4,7 @@ use crate::cases::{boxes_case, small, Case};
 use crate::columns::told_case;
 use crate::files::listing;
 use crate::hall;
-use crate::limits::{limit_case, limit_slips, limit_texts, limit_writing, streams};
+use crate::limits::{limit_case, limit_slips, limit_texts, limit_why, limit_writing, streams};
 use crate::random::Random;
 use crate::scratch::Scratch;
 use crate::shrink::{shrunk, told};
@@ -253,6 +253,7 @@ fn all_agree(
         comparison.compare(console, &[limit_case(random, kind)])?;
     }
     comparison.compare(console, &[limit_texts(random, "limit")])?;
+    comparison.compare(console, &[limit_why()])?;
     comparison.compare(console, &[limit_writing()])?;
     comparison.compare(console, &[limit_slips()])?;
     comparison.tell("cases at the limits");

@@ -92,15 +92,15 @@ pub const FAULT_WORDS: [&str; 11] = [
 ];
 
 #[rustfmt::skip]
-const COMMANDS: [&[u8]; 13] = [
+const COMMANDS: [&[u8]; 14] = [
     b"n", b"m", b"lend", b"show", b"gr", b"co", b"build", b"check", b"update", b"search", b"boxed",
-    b"fresh", b"help",
+    b"why", b"fresh", b"help",
 ];
 
 pub const HELP: &str =
     "commands: n N, m M, lend ROW VALUES, show ROW, show ROW K, gr FILE, co FILE, build, check, \
-    update ARC WEIGHT BYTE, search S T, boxed S T, write gr, write co, save gr FILE, save co FILE, fresh, help; \
-    rows: tails, heads, weights, x, y, boxes, route, text, closed";
+    update ARC WEIGHT BYTE, search S T, boxed S T, why S T ARC, write gr, write co, save gr FILE, save co FILE, \
+    fresh, help; rows: tails, heads, weights, x, y, boxes, route, text, closed";
 
 /// A reply other than the one hoped for.
 enum No {
@@ -217,6 +217,9 @@ impl Console {
             }
             [b"search", s, t] => return Ok(told(calls::search(lent, count(s)?, count(t)?)?)),
             [b"boxed", s, t] => return Ok(told(calls::boxed(lent, count(s)?, count(t)?)?)),
+            [b"why", s, t, arc] => {
+                return Ok(format!("ok {}", calls::why(lent, count(s)?, count(t)?, count(arc)?)?));
+            }
             // The kind of file is part of the command's name.
             [b"write", of, ref rest @ ..] => {
                 let write = writer(of).ok_or(Fault::NoCommand)?;

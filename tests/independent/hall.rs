@@ -17,7 +17,7 @@ pub const LISTING: &str = "\
 ";
 
 /// Its lines as console commands with the replies; the plan is read from `hall.gr` and `hall.co`.
-pub const TALK: [(&str, &str); 40] = [
+pub const TALK: [(&str, &str); 46] = [
     ("gr hall.gr", "ok 4 6"),
     ("co hall.co", "ok"),
     ("build", "ok"),
@@ -31,6 +31,13 @@ pub const TALK: [(&str, &str); 40] = [
     ("search 4 2", "ok 7 2 3 6 1"),
     ("boxed 1 1", "ok 0 0 1"),
     ("search 1 1", "ok 0 0 1"),
+    // Each arc, from 1 to 4.
+    ("why 1 4 1", "ok 4 (an equally short way uses it, and the tie rule picked another)"),
+    ("why 1 4 2", "ok 4 (an equally short way uses it, and the tie rule picked another)"),
+    ("why 1 4 3", "ok 5 (it is on the route)"),
+    ("why 1 4 4", "ok 5 (it is on the route)"),
+    ("why 1 4 5", "ok 3 3 (the best way through it is longer by 3)"),
+    ("why 1 4 6", "ok 3 10 (the best way through it is longer by 10)"),
     // Arc 3's low raised to 6.
     ("lend boxes -5 10 0 20 -5 10 0 20 -5 10 6 20 -5 10 0 20 -5 -5 20 20 0 10 0 5", "ok"),
     ("check", "refused 13 3 3 (the box of arc 3 misses node 3)"),

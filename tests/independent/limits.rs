@@ -60,6 +60,9 @@ pub fn limit_case(random: &mut Random, kind: usize) -> Case {
     let mut case = Case::default();
     case.lend(&lent);
     case.say(format!("search 1 {NODES}"));
+    for arc in [1, NODES - 1, NODES, ARCS, ARCS + 1] {
+        case.say(format!("why 1 {NODES} {arc}"));
+    }
     for call in ["build", "show boxes", "check"] {
         case.say(call);
     }
@@ -68,6 +71,9 @@ pub fn limit_case(random: &mut Random, kind: usize) -> Case {
         case.say(format!("search {} {}", asked.s, asked.t));
         case.say(format!("boxed {} {}", asked.s, asked.t));
         case.say("show route");
+        for arc in [asked.arc, random.between(1, ARCS), random.between(1, ARCS)] {
+            case.say(format!("why {} {} {arc}", asked.s, asked.t));
+        }
     }
     for byte in [1, 0] {
         let (arc, weight) = (random.between(1, ARCS), random.pick(&[0, WEIGHT]));
@@ -75,6 +81,36 @@ pub fn limit_case(random: &mut Random, kind: usize) -> Case {
     }
     case.say("check");
     case.show_rows();
+    case
+}
+
+/// A ring of all nodes, by arcs of the greatest weight, and arcs from the last node to the second: from a node to itself
+/// the way over one of these goes nearly round twice, and no excess can be greater. Then one place or arc less or more.
+pub fn limit_why() -> Case {
+    let ring = |e: i64| if e < NODES { (e + 1, (e + 1) % NODES + 1) } else { (NODES, 2) };
+    let mut lent = Lent { n: NODES, m: ARCS, ..Lent::default() };
+    (lent.tails, lent.heads) = (0..ARCS).map(ring).unzip();
+    (lent.weights, lent.closed) = (vec![WEIGHT; ARCS as usize], vec![0; ARCS as usize]);
+    lent.closed[ARCS as usize - 1] = 1;
+    let mut case = Case::default();
+    case.lend(&lent);
+    let last_arcs = [NODES - 1, NODES, NODES + 1, ARCS - 1, ARCS, ARCS + 1];
+    for (s, t) in
+        [(1, 1), (1, NODES), (NODES, 1), (NODES, NODES - 1), (NODES, NODES), (1, NODES + 1), (NODES + 1, 1)]
+    {
+        for arc in last_arcs {
+            case.say(format!("why {s} {t} {arc}"));
+        }
+    }
+    // The last arc's byte is judged, the one behind it is not, and a place too few is refused.
+    for (places, byte) in [(ARCS, 7), (ARCS + 1, 7), (ARCS - 1, 0)] {
+        case.say(format!("lend closed{} {byte}", " 0".repeat(places as usize - 1)));
+        case.say(format!("why 1 1 {ARCS}"));
+    }
+    case.say("fresh");
+    for line in ["n 512", "m 2049", "why 1 1 1", "n 513", "m 2048", "why 1 1 1", "n 512", "why 1 1 1"] {
+        case.say(line);
+    }
     case
 }
 

@@ -1,4 +1,4 @@
-//! The independent program: document 01 and requests a to c of 02 a second time, from their words alone, to compare the crates with.
+//! The independent program: document 01 and requests a to e of 02 a second time, from their words alone, to compare the crates with.
 //! It is built by: rustc -O --edition 2021 -o target/independent tests/independent/main.rs
 
 mod boxes;
@@ -8,6 +8,7 @@ mod closures;
 mod columns;
 mod compare;
 mod console;
+mod drivers;
 mod files;
 mod hall;
 mod lent;
@@ -15,6 +16,7 @@ mod limits;
 mod network;
 mod plans;
 mod random;
+mod reasons;
 mod record;
 mod refusals;
 mod scratch;

@@ -6,6 +6,7 @@ use crate::cases::{small, Case};
 use crate::closures;
 use crate::columns;
 use crate::console::{Fault, FAULT_WORDS};
+use crate::drivers;
 use crate::files::{listing, rows_for_reading};
 use crate::hall;
 use crate::lent::Lent;
@@ -49,11 +50,13 @@ pub fn run() -> bool {
     longest_texts(&mut tally);
     columns::told_by_hand(&mut tally);
     columns::all_short_lines(&mut tally);
+    drivers::greatest_excess(&mut tally);
     let mut random = Random::new(1);
     for _ in 0..4_000 {
         claims(&mut tally, &mut random);
         closures::claims(&mut tally, &mut random);
         columns::claims(&mut tally, &mut random);
+        drivers::claims(&mut tally, &mut random);
     }
     coverage(&mut tally);
     println!("{} passed, {} failed", tally.passed, tally.failed);
@@ -319,12 +322,19 @@ fn on_closures(case: &Case, call: &str) -> bool {
     false
 }
 
+/// How the replies to `why` begin.
+#[rustfmt::skip]
+const WHY_REPLIES: [&str; 11] = [
+    "ok 1 (", "ok 2 (", "ok 3 ", "ok 4 (", "ok 5 (", "refused 5 0 ", "refused 2 (", "refused 8 ", "refused 14 ",
+    "refused 11 (", "refused 12 ",
+];
+
 /// The recorded cases have every refusal and every fault; the small cases have all but the longest line.
 fn coverage(tally: &mut Tally) {
     let scratch = Scratch::new();
     let mut random = Random::new(2);
     let small: Vec<Case> = (0..1_500).map(|number| small(&mut random, &format!("small{number}"))).collect();
-    for call in ["search", "boxed", "build", "check", "update"] {
+    for call in ["search", "boxed", "build", "check", "update", "why"] {
         // One in ten of these, and so 2,000 of those that are compared.
         let made = small.iter().filter(|case| on_closures(case, call)).count();
         tally.expect(10 * made >= small.len(), format!("{call} where a track is closed in {made} cases"));
@@ -352,6 +362,11 @@ fn coverage(tally: &mut Tally) {
             let seen =
                 told.filter(|(line, reply)| line.starts_with(asks.as_bytes()) && reply.starts_with(&begin));
             tally.expect(seen.count() > 0, format!("{name}: {kind} {begin}"));
+        }
+        for begin in WHY_REPLIES {
+            let mut told = case.lines.iter().zip(output.lines());
+            let seen = told.any(|(line, reply)| line.starts_with(b"why ") && reply.starts_with(begin));
+            tally.expect(seen, format!("{name}: why, {begin}"));
         }
         let unwritten = "refused 0 0 (the file cannot be written)";
         tally.expect(replies.contains(unwritten), format!("{name}: {unwritten}"));

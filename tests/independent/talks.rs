@@ -6,7 +6,7 @@ pub fn exchanges(talk: &str) -> Vec<(&str, &str)> {
     said.map(|line| line.split_once(" => ").unwrap_or((line, "ok"))).collect()
 }
 
-pub const TALKS: [&str; 5] = [WORKED, SMALL, AROUND_ZERO, WRITTEN, CLOSED];
+pub const TALKS: [&str; 6] = [WORKED, SMALL, AROUND_ZERO, WRITTEN, CLOSED, WHY];
 
 /// 'A hall plan worked through', lent by hand into rows of just the places needed.
 const WORKED: &str = "\
@@ -440,4 +440,178 @@ boxed 0 0 => refused 14 2 (the closure of arc 2 is neither 0 nor 1)
 build => refused 14 2 (the closure of arc 2 is neither 0 nor 1)
 check => refused 14 2 (the closure of arc 2 is neither 0 nor 1)
 write gr => ok 31
+";
+
+/// Drivers who ask why, by request e: on the hall plan, with zero times, with loops, and each refusal in its order.
+const WHY: &str = "\
+fresh
+-- The hall plan, in rows that hold the arcs alone. From 1 to 4 arcs 1, 2 and 4 take as long as 3 and 4.
+n 4
+m 6
+lend tails 1 2 1 3 1 4
+lend heads 2 3 3 4 4 1
+lend weights 3 2 5 1 9 4
+lend closed 0 0 0 0 0 0
+lend x
+lend y
+lend boxes
+lend route
+lend text
+why 1 4 1 => ok 4 (an equally short way uses it, and the tie rule picked another)
+why 1 4 2 => ok 4 (an equally short way uses it, and the tie rule picked another)
+why 1 4 3 => ok 5 (it is on the route)
+why 1 4 4 => ok 5 (it is on the route)
+why 1 4 5 => ok 3 3 (the best way through it is longer by 3)
+why 1 4 6 => ok 3 10 (the best way through it is longer by 10)
+-- From 4 to 2, where another arc means a whole round more; and from a node to itself, where the route is empty.
+why 4 2 1 => ok 5 (it is on the route)
+why 4 2 2 => ok 3 10 (the best way through it is longer by 10)
+why 4 2 3 => ok 3 10 (the best way through it is longer by 10)
+why 4 2 4 => ok 3 10 (the best way through it is longer by 10)
+why 4 2 5 => ok 3 13 (the best way through it is longer by 13)
+why 4 2 6 => ok 5 (it is on the route)
+why 1 1 1 => ok 3 10 (the best way through it is longer by 10)
+why 1 1 5 => ok 3 13 (the best way through it is longer by 13)
+why 4 4 6 => ok 3 10 (the best way through it is longer by 10)
+-- With arc 3 closed the route goes by arcs 1, 2 and 4; with arc 1 closed too, 2 and 3 cannot be reached.
+lend closed 0 0 1 0 0 0
+why 1 4 1 => ok 5 (it is on the route)
+why 1 4 2 => ok 5 (it is on the route)
+why 1 4 3 => ok 1 (the track is closed)
+why 1 4 4 => ok 5 (it is on the route)
+why 1 4 5 => ok 3 3 (the best way through it is longer by 3)
+why 1 4 6 => ok 3 10 (the best way through it is longer by 10)
+lend closed 1 0 1 0 0 0
+why 1 4 1 => ok 1 (the track is closed)
+why 1 4 2 => ok 2 (its start cannot be reached, or the target not from its end)
+why 1 4 3 => ok 1 (the track is closed)
+why 1 4 4 => ok 2 (its start cannot be reached, or the target not from its end)
+why 1 4 5 => ok 5 (it is on the route)
+why 1 4 6 => ok 3 13 (the best way through it is longer by 13)
+-- With arcs 1, 3 and 5 closed no way leads from 1: that comes before any reason, a closed arc's too.
+lend closed 1 0 1 0 1 0
+why 1 4 1 => refused 12 1 (no walk leads from the source to the target, settled 1)
+why 1 4 2 => refused 12 1 (no walk leads from the source to the target, settled 1)
+why 1 4 6 => refused 12 1 (no walk leads from the source to the target, settled 1)
+why 2 4 3 => ok 1 (the track is closed)
+why 1 1 2 => ok 2 (its start cannot be reached, or the target not from its end)
+why 1 1 1 => ok 1 (the track is closed)
+why 2 4 6 => ok 2 (its start cannot be reached, or the target not from its end)
+why 2 1 6 => ok 5 (it is on the route)
+lend closed 1 0 1 0 0 1
+why 1 4 2 => ok 2 (its start cannot be reached, or the target not from its end)
+why 1 4 6 => ok 1 (the track is closed)
+why 2 4 5 => ok 2 (its start cannot be reached, or the target not from its end)
+show closed => closed 1 0 1 0 0 1
+show weights => weights 3 2 5 1 9 4
+show route => route
+-- Arcs 1-2 and 2-1 of weight 0, 1-3 and 2-3 of weight 5: a walk may go round before it goes on.
+n 3
+m 4
+lend tails 1 2 1 2
+lend heads 2 1 3 3
+lend weights 0 0 5 5
+lend closed 0 0 0 0
+why 1 3 1 => ok 4 (an equally short way uses it, and the tie rule picked another)
+why 1 3 2 => ok 4 (an equally short way uses it, and the tie rule picked another)
+why 1 3 3 => ok 5 (it is on the route)
+why 1 3 4 => ok 4 (an equally short way uses it, and the tie rule picked another)
+why 2 3 1 => ok 4 (an equally short way uses it, and the tie rule picked another)
+why 2 3 2 => ok 4 (an equally short way uses it, and the tie rule picked another)
+why 2 3 3 => ok 4 (an equally short way uses it, and the tie rule picked another)
+why 2 3 4 => ok 5 (it is on the route)
+why 1 1 1 => ok 4 (an equally short way uses it, and the tie rule picked another)
+why 1 1 2 => ok 4 (an equally short way uses it, and the tie rule picked another)
+why 1 1 3 => ok 2 (its start cannot be reached, or the target not from its end)
+why 1 1 4 => ok 2 (its start cannot be reached, or the target not from its end)
+-- Parallel arcs and loops: of two that tie the lower number is on the route, and a loop never is.
+n 2
+m 6
+lend tails 1 1 1 1 1 2
+lend heads 2 2 2 1 1 2
+lend weights 4 3 3 0 7 0
+lend closed 0 0 0 0 0 0
+why 1 2 1 => ok 3 1 (the best way through it is longer by 1)
+why 1 2 2 => ok 5 (it is on the route)
+why 1 2 3 => ok 4 (an equally short way uses it, and the tie rule picked another)
+why 1 2 4 => ok 4 (an equally short way uses it, and the tie rule picked another)
+why 1 2 5 => ok 3 7 (the best way through it is longer by 7)
+why 1 2 6 => ok 4 (an equally short way uses it, and the tie rule picked another)
+why 1 1 4 => ok 4 (an equally short way uses it, and the tie rule picked another)
+why 1 1 5 => ok 3 7 (the best way through it is longer by 7)
+why 1 1 2 => ok 2 (its start cannot be reached, or the target not from its end)
+why 2 2 6 => ok 4 (an equally short way uses it, and the tie rule picked another)
+why 2 2 4 => ok 2 (its start cannot be reached, or the target not from its end)
+lend closed 0 1 0 1 0 1
+why 1 2 1 => ok 3 1 (the best way through it is longer by 1)
+why 1 2 2 => ok 1 (the track is closed)
+why 1 2 3 => ok 5 (it is on the route)
+why 1 2 4 => ok 1 (the track is closed)
+why 1 2 5 => ok 3 7 (the best way through it is longer by 7)
+why 1 2 6 => ok 1 (the track is closed)
+-- The refusals one after the other: 5, 2 for each of four rows, 8, 14, 11, 12. The other rows are not looked at.
+n 513
+m 2
+lend tails 1
+lend heads 2 2
+lend weights 1 1000001
+lend closed 2 255
+lend x 1000001
+lend route 7
+why 3 0 3 => refused 5 0 (n, m or the new weight is beyond its limits)
+n 2
+m 2049
+why 3 0 3 => refused 5 0 (n, m or the new weight is beyond its limits)
+m 2
+why 3 0 3 => refused 2 (a lent row is too short)
+lend tails 1 3
+lend heads 2
+why 3 0 3 => refused 2 (a lent row is too short)
+lend heads 2 2
+lend weights 1
+why 3 0 3 => refused 2 (a lent row is too short)
+lend weights 1 1000001
+lend closed 2
+why 3 0 3 => refused 2 (a lent row is too short)
+lend closed 2 255
+why 3 0 3 => refused 8 2 (arc 2 has a bad node or weight)
+lend tails 1 1
+why 3 0 3 => refused 8 2 (arc 2 has a bad node or weight)
+lend weights 1 1
+why 3 0 3 => refused 14 1 (the closure of arc 1 is neither 0 nor 1)
+lend closed 1 2
+why 3 0 3 => refused 14 2 (the closure of arc 2 is neither 0 nor 1)
+lend closed 1 1
+why 3 0 3 => refused 11 (the source, target or arc is not in the network)
+why 3 2 1 => refused 11 (the source, target or arc is not in the network)
+why 0 2 1 => refused 11 (the source, target or arc is not in the network)
+why 1 0 1 => refused 11 (the source, target or arc is not in the network)
+why 1 3 2 => refused 11 (the source, target or arc is not in the network)
+why 1 2 0 => refused 11 (the source, target or arc is not in the network)
+why 1 2 3 => refused 11 (the source, target or arc is not in the network)
+why 1 2 4294967295 => refused 11 (the source, target or arc is not in the network)
+why 4294967295 1 1 => refused 11 (the source, target or arc is not in the network)
+why 1 2 1 => refused 12 1 (no walk leads from the source to the target, settled 1)
+why 2 1 2 => refused 12 1 (no walk leads from the source to the target, settled 1)
+why 1 1 1 => ok 1 (the track is closed)
+lend closed 0 1
+why 2 1 1 => refused 12 1 (no walk leads from the source to the target, settled 1)
+why 1 2 1 => ok 5 (it is on the route)
+why 1 2 2 => ok 1 (the track is closed)
+why 2 2 1 => ok 2 (its start cannot be reached, or the target not from its end)
+m 0
+why 1 1 1 => refused 11 (the source, target or arc is not in the network)
+why 1 2 1 => refused 11 (the source, target or arc is not in the network)
+show route => route 7
+show closed => closed 0 1
+-- Exactly three numbers, judged like other numbers without sign.
+why => ? a wrong count of words for this command
+why 1 2 => ? a wrong count of words for this command
+why 1 2 1 1 => ? a wrong count of words for this command
+why 1 2 boxes => ? a number is misspelt
+why 01 2 1 => ? a number is misspelt
+why 1 -2 1 => ? a number is misspelt
+why 1 2 4294967296 => ? a number is too small or too large for its place
+why 4294967296 x 1 => ? a number is too small or too large for its place
+why x 2 4294967296 => ? a number is misspelt
 ";

@@ -7,19 +7,19 @@ use crate::refusals::{refused, Refusal};
 
 /// A walk: where it ends, its length, and the numbers of its arcs, the first one first.
 #[derive(Clone)]
-struct Walk {
-    end: usize,
+pub struct Walk {
+    pub end: usize,
     length: i64,
     arcs: Vec<usize>,
 }
 
-/// All walks from s of at most n arcs. A longer one is never needed, even behind a given first arc.
-fn walks(n: usize, arcs: &[Arc], s: usize) -> Vec<Walk> {
+/// All walks from s of at most so many arcs. More than n arcs are never needed, even behind a given first one.
+pub fn from(count: usize, arcs: &[Arc], s: usize) -> Vec<Walk> {
     let mut all = vec![Walk { end: s, length: 0, arcs: vec![] }];
     let mut at = 0;
     while at < all.len() {
         let walk = all[at].clone();
-        for arc in arcs.iter().filter(|arc| arc.tail == walk.end && walk.arcs.len() < n) {
+        for arc in arcs.iter().filter(|arc| arc.tail == walk.end && walk.arcs.len() < count) {
             let longer = [&walk.arcs[..], &[arc.number]].concat();
             all.push(Walk { end: arc.head, length: walk.length + arc.weight, arcs: longer });
         }
@@ -30,7 +30,7 @@ fn walks(n: usize, arcs: &[Arc], s: usize) -> Vec<Walk> {
 
 /// The search from s to t: length, settled count and route.
 pub fn search(n: usize, arcs: &[Arc], s: usize, t: usize) -> Result<Found, Refusal> {
-    let walks = walks(n, arcs, s);
+    let walks = from(n, arcs, s);
     let key = |walk: &Walk| (walk.length, walk.arcs.len(), walk.end);
     let triple = |u: usize| walks.iter().filter(|walk| walk.end == u).map(key).min();
     let triples: Vec<_> = (1..=n).filter_map(triple).collect();
@@ -45,9 +45,14 @@ pub fn search(n: usize, arcs: &[Arc], s: usize, t: usize) -> Result<Found, Refus
     Ok(Found { length: own.0, settled: 1 + triples.iter().filter(|before| **before < own).count(), route })
 }
 
+/// The least length of those of the walks to t that use the arc with this number.
+pub fn best_through(walks: &[Walk], t: usize, e: usize) -> Option<i64> {
+    walks.iter().filter(|walk| walk.end == t && walk.arcs.contains(&e)).map(|walk| walk.length).min()
+}
+
 /// S(e): every t to which a shortest walk from the tail of e begins with e.
 pub fn set(n: usize, arcs: &[Arc], e: &Arc) -> Vec<usize> {
-    let walks = walks(n, arcs, e.tail);
+    let walks = from(n, arcs, e.tail);
     let begun = |walk: &Walk| walk.arcs.first() == Some(&e.number);
     let in_set = |t: &usize| {
         let to_t = walks.iter().filter(|walk| walk.end == *t);

@@ -10,10 +10,12 @@ use Rattle.files.specs.File.{Held}
 use Rattle.commands.specs.declared.Call.{Call}
 use Rattle.dimacs.proofs.Unique.{read-gr-unique, read-co-unique}
 use Rattle.dimacs.specs.declared.GrReply.{GrReply}
+use Rattle.reasons.proofs.PaperLaws as reasons
+use Rattle.reasons.proofs.SaysLaws.{why-unique}
 use Rattle.search.proofs.PaperLaws.{paper-injective}
 use Rattle.search.proofs.SaysLaws.{says-unique}
 use Rattle.boxwork.proofs.SaysLaws.{build-unique, check-unique, update-unique}
-use Rattle.replies.specs.Replies.{judgedLine}
+use Rattle.replies.specs.Replies.{judgedLine, reasonLine}
 use Rattle.calls.specs.Calls.{Given, withBoxes, withRoute, Makes}
 use Rattle.calls.specs.Texts.{graphLine, graphSizes, placesLine, ReadsGraph, ReadsPlaces}
 use Rattle.calls.specs.declared.Sizes.{Sizes}
@@ -34,6 +36,7 @@ makes-unique {g = g} (Makes.search a s) (Makes.search a′ s′) =
 makes-unique {g = g} (Makes.boxed a s) (Makes.boxed a′ s′) =
     let same = says-unique s s′ in
     (rw (paper-injective a a′ (same .0), same .1), ap (λ (l : List ℕ). withRoute l g) (same .1))
+makes-unique (Makes.why a s) (Makes.why a′ s′) = (ap reasonLine (reasons.paper-injective a a′ (why-unique s s′)), refl)
 
 -- ---- the files
 

@@ -11,7 +11,10 @@ use Rattle.search.specs.Says.{SearchSays, BoxedSays}
 use Rattle.search.specs.Paper.{paper}
 use Rattle.search.specs.declared.Answer.{Answer}
 use Rattle.boxwork.specs.Says.{BuildSays, CheckSays, UpdateSays}
-use Rattle.replies.specs.Replies.{judgedLine, answerLine}
+use Rattle.reasons.specs.Says.{WhySays}
+use Rattle.reasons.specs.Paper as reasons
+use Rattle.reasons.specs.declared.WhyNot.{WhyNot}
+use Rattle.replies.specs.Replies.{judgedLine, answerLine, reasonLine}
 use Rattle.calls.specs.declared.Sizes.{Sizes}
 use Rattle.calls.specs.declared.network.BoxWork.{BoxWork}
 use Rattle.calls.specs.declared.network.BoxWork.the-variants as work
@@ -29,6 +32,7 @@ workCall (work.Update arc weight closure) = call.Update arc weight closure
 abbrev pub tripCall : Trip → Call
 tripCall (trip.Plain s t) = call.Search s t
 tripCall (trip.Boxed s t) = call.Boxed s t
+tripCall (trip.Why s t arc) = call.Why s t arc
 
 abbrev pub taskCall : Task → Call
 taskCall (task.Boxes w) = workCall w
@@ -88,3 +92,6 @@ pub data Makes (sizes : Sizes) (g : Given) : Call → List ℕ → Given → Typ
   boxed : {s t : ℕ} (a : Answer) {route : List ℕ}
       → BoxedSays (sizes .n) (sizes .m) (arcs g) (g .x) (g .y) (g .boxes) s t (g .route) (paper a) route
       → Makes sizes g (call.Boxed s t) (answerLine a route) (withRoute route g)
+  why : {s t arc : ℕ} (a : WhyNot)
+      → WhySays (sizes .n) (sizes .m) (arcs g) s t arc (reasons.paper a)
+      → Makes sizes g (call.Why s t arc) (reasonLine a) g

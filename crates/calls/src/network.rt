@@ -10,6 +10,7 @@ use crate::Sizes;
 use commands::Call;
 use pages::PAGE;
 use replies::answers::put_answer;
+use replies::why::put_reason;
 use replies::words::put_judged;
 
 // The calls that write weights, closures and boxes.
@@ -19,10 +20,11 @@ pub enum BoxWork {
     Update(u32, u32, u8),
 }
 
-// The calls that write the route row alone.
+// The calls that write the route row alone, or nothing.
 pub enum Trip {
     Plain(u32, u32),
     Boxed(u32, u32),
+    Why(u32, u32, u32),
 }
 
 // A call by the rows that it writes.
@@ -40,6 +42,7 @@ pub fn task_of(call: Call) -> Task
         Call::Update(arc, weight, closure) => Task::Boxes(BoxWork::Update(arc, weight, closure)),
         Call::Search(s, t) => Task::Route(Trip::Plain(s, t)),
         Call::Boxed(s, t) => Task::Route(Trip::Boxed(s, t)),
+        Call::Why(s, t, arc) => Task::Route(Trip::Why(s, t, arc)),
     }
 }
 
@@ -90,7 +93,7 @@ pub fn work_on_boxes(
     }
 }
 
-// A search on rows, and its reply.
+// A search on rows, or why an arc is not on its route, and the reply.
 pub fn make_trip(
     page: &mut [u8; PAGE],
     trip: Trip,
@@ -131,6 +134,10 @@ pub fn make_trip(
                 route,
             );
             return put_answer(page, a, route);
+        }
+        Trip::Why(s, t, arc) => {
+            let a = reasons::why(n, m, tails, heads, weights, closures, s, t, arc);
+            return put_reason(page, a);
         }
     }
 }

@@ -110,7 +110,8 @@ unfoldable pub showAsked : List (List ℕ) → Row → Command
 showAsked [] row = Other (request.Show row All)
 showAsked (k ∷ more) row = withNumber (number k) (λ v. Other (request.Show row (First v)))
 
--- Numbers are judged from the left, each by its spelling and its size before the next; so the byte of `update` comes last.
+-- Numbers are judged from the left, each by its spelling and its size before the next; so the byte of `update` comes last, and the arc
+-- of `why`.
 unfoldable pub asked : Verb → List (List ℕ) → Command
 asked verb.N words = withNumber (number (word 0 words)) (λ v. Other (request.SetN v))
 asked verb.M words = withNumber (number (word 0 words)) (λ v. Other (request.SetM v))
@@ -123,6 +124,7 @@ asked verb.Check words = Other (request.Call call.Check)
 asked verb.Update words = withPair (pairIn words) (λ arc weight. withNumber (byte (word 2 words)) (λ b. Other (request.Call (call.Update arc weight b))))
 asked verb.Search words = withPair (pairIn words) (λ s t. Other (request.Call (call.Search s t)))
 asked verb.Boxed words = withPair (pairIn words) (λ s t. Other (request.Call (call.Boxed s t)))
+asked verb.Why words = withPair (pairIn words) (λ s t. withNumber (number (word 2 words)) (λ e. Other (request.Call (call.Why s t e))))
 asked (verb.Write format) words = Other (request.Write format)
 asked (verb.Save format) words = Save format
 asked verb.Fresh words = Fresh

@@ -27,7 +27,7 @@ with command (Known format) = command format
 with command Unknown = verb.NoVerb
 
 abbrev pub verbNames : List (List ℕ)
-verbNames = wordsOf (bytes "n m lend show gr co build check update search boxed write save fresh help")
+verbNames = wordsOf (bytes "n m lend show gr co build check update search boxed why write save fresh help")
 
 -- the commands in the order of their names, where the second word names such a kind of file
 abbrev pub allVerbs : FormatName → List Verb
@@ -43,6 +43,7 @@ allVerbs format =
     ∷ verb.Update
     ∷ verb.Search
     ∷ verb.Boxed
+    ∷ verb.Why
     ∷ with verb.Write format
     ∷ with verb.Save format
     ∷ verb.Fresh
@@ -66,6 +67,7 @@ takesWords verb.Check words = eqb words 1
 takesWords verb.Update words = eqb words 4
 takesWords verb.Search words = eqb words 3
 takesWords verb.Boxed words = eqb words 3
+takesWords verb.Why words = eqb words 4
 takesWords (verb.Write format) words = eqb words 2
 takesWords (verb.Save format) words = eqb words 3
 takesWords verb.Fresh words = eqb words 1

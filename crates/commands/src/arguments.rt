@@ -2,7 +2,7 @@
 ghost use mathlib.Core.Path.{_≡_};
 ghost use Rattle.commands.specs.Words.{wordsOf};
 ghost use Rattle.commands.specs.Commands.{pairIn, asked};
-ghost use Rattle.commands.specs.declared.verbs.Verb.the-variants.{Lend, Show, Update};
+ghost use Rattle.commands.specs.declared.verbs.Verb.the-variants.{Lend, Show, Update, Why};
 use crate::Call;
 use crate::Command;
 use crate::Fault;
@@ -96,6 +96,22 @@ fn update_of(words: &[u8]) -> Command
     }
 }
 
+// `why`: a source and a target, then an arc.
+fn why_of(words: &[u8]) -> Command
+    ensures { λ r. ⌜ r ≡ asked Why (wordsOf (now (words .entry))) ⌝ }
+{
+    let pair = read_pair(words);
+    let after_source = after_word(words);
+    let last = read_count(first_word(after_word(after_source)));
+    match pair {
+        Pair::Not(fault) => Command::Faulty(fault),
+        Pair::Are(s, t) => match last {
+            Count::Not(fault) => Command::Faulty(fault),
+            Count::Is(arc) => Command::Other(Request::Call(Call::Why(s, t, arc))),
+        },
+    }
+}
+
 // The command of a line whose first word is `verb` and whose other words are `words`.
 pub fn ask(verb: Verb, words: &[u8]) -> Command
     ensures { λ r. ⌜ r ≡ asked verb (wordsOf (now (words .entry))) ⌝ }
@@ -124,6 +140,7 @@ pub fn ask(verb: Verb, words: &[u8]) -> Command
             Pair::Are(s, t) => Command::Other(Request::Call(Call::Boxed(s, t))),
             Pair::Not(fault) => Command::Faulty(fault),
         },
+        Verb::Why => why_of(words),
         Verb::Write(format) => Command::Other(Request::Write(format)),
         Verb::Save(format) => Command::Save(format),
         Verb::Fresh => Command::Fresh,

@@ -42,6 +42,7 @@ pub enum Call {
     Update(u32, u32, u8),
     Search(u32, u32),
     Boxed(u32, u32),
+    Why(u32, u32, u32),
 }
 
 // Which of a row's lent places are shown.

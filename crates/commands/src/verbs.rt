@@ -38,6 +38,7 @@ pub enum Verb {
     Update,
     Search,
     Boxed,
+    Why,
     Write(Format),
     Save(Format),
     Fresh,
@@ -52,7 +53,7 @@ pub fn verb_of(first: &[u8], second: &[u8]) -> Verb
     let format = format_of(second);
     match place_of(
         first,
-        b"n m lend show gr co build check update search boxed write save fresh help",
+        b"n m lend show gr co build check update search boxed why write save fresh help",
     ) {
         0 => Verb::N,
         1 => Verb::M,
@@ -65,16 +66,17 @@ pub fn verb_of(first: &[u8], second: &[u8]) -> Verb
         8 => Verb::Update,
         9 => Verb::Search,
         10 => Verb::Boxed,
-        11 => match format {
+        11 => Verb::Why,
+        12 => match format {
             FormatName::Known(f) => Verb::Write(f),
             FormatName::Unknown => Verb::NoVerb,
         },
-        12 => match format {
+        13 => match format {
             FormatName::Known(f) => Verb::Save(f),
             FormatName::Unknown => Verb::NoVerb,
         },
-        13 => Verb::Fresh,
-        14 => Verb::Help,
+        14 => Verb::Fresh,
+        15 => Verb::Help,
         _ => Verb::NoVerb,
     }
 }
@@ -95,6 +97,7 @@ pub fn takes(verb: Verb, words: usize) -> bool
         Verb::Update => words == 4,
         Verb::Search => words == 3,
         Verb::Boxed => words == 3,
+        Verb::Why => words == 4,
         Verb::Write(_format) => words == 2,
         Verb::Save(_format) => words == 3,
         Verb::Fresh => words == 1,

@@ -16,7 +16,7 @@ use Rattle.geometry.specs.Box.{wellShapedB}
 use Rattle.geometry.specs.Row.{boxOf, coordinate}
 use Rattle.walks.specs.Rows.{Rows, at}
 use Rattle.judging.specs.Cut.{cut}
-use Rattle.judging.specs.Order.{arcRowsLong, boxRowsLong, arcs, goodClosure, closures, coordinates, shapes, arcsJudged, networkJudged, searchedBy, placedBy, shapedBy, searchJudged, boxedJudged, buildJudged, checkJudged, updateJudged}
+use Rattle.judging.specs.Order.{arcRowsLong, boxRowsLong, arcs, goodClosure, closures, coordinates, shapes, arcsJudged, networkJudged, searchedBy, placedBy, shapedBy, searchJudged, whyJudged, boxedJudged, buildJudged, checkJudged, updateJudged}
 
 -- ---- A row
 
@@ -83,6 +83,10 @@ module _ (n m : ℕ) (R : Rows) where
       → searchJudged n m (cut m R) s t (length (take n route)) ≡ searchJudged n m R s t (length route)
   unfolding searchedBy searchJudged
   search-judged-cut s t route = rw (long-cut n route, network-cut (leb n (length route)))
+
+  pub why-judged-cut : (s t arc : ℕ) → whyJudged n m (cut m R) s t arc ≡ whyJudged n m R s t arc
+  unfolding whyJudged
+  why-judged-cut s t arc = rw (network-cut true)
 
   module _ (x y boxes : List ℤ) where
     placed-cut : (others : Bool) → placedBy (networkJudged n m (cut m R)) n m (take n x) (take n y) (take (4 * m) boxes) others

@@ -4,20 +4,19 @@ use mathlib.Core.Path.{_≡_, refl}
 use mathlib.Core.Logic.{_↔_}
 use mathlib.Core.Bool.{true, _&&_}
 use mathlib.Core.List.{List}
+use native.Mathlib.Omega.{arith}
 use borrow.Author.Tests.{leb-true, le-leb}
 use lib.IntN.{ℤ}
 use lib.ListN.{length}
 use lib.Dec.{leb}
 use Rattle.rules.specs.declared.Judged.the-variants.{Fine}
-use Rattle.rules.specs.Judging.{passes}
-use Rattle.rules.specs.declared.Refusal.the-variants.{NotInNetwork}
 use Rattle.rules.proofs.AndLaws.{and-true, same-test}
 use Rattle.rules.proofs.JudgingLaws.{both-fine, passed, each-passes, each-fine}
 use Rattle.geometry.specs.Box.{WellShaped}
 use Rattle.geometry.specs.Row.{boxOf, Shaped}
 use Rattle.geometry.proofs.Tests.{shaped-yes, yes-shaped}
 use Rattle.walks.specs.Rows.{Rows, Sound}
-use Rattle.judging.specs.Order.{shapes, ends, reweighing, change, networkJudged, searchedBy, shapedBy, searchJudged, boxedJudged, buildJudged, checkJudged, updateJudged}
+use Rattle.judging.specs.Order.{shapes, ends, knownArc, reweighing, change, networkJudged, searchedBy, shapedBy, searchJudged, whyJudged, boxedJudged, buildJudged, checkJudged, updateJudged}
 use Rattle.judging.proofs.StageLaws.{network-fine, BoxesLent, placed-fine, shaped-parts, placed-judged, shaped-adds-nothing}
 
 -- the boxes that were judged are well shaped
@@ -34,6 +33,10 @@ ends-fine n s t e =
     let q = and-true (leb 1 s && leb s n) (leb 1 t) (p .0) in
     let r = and-true (leb 1 s) (leb s n) (q .0) in
     (leb-true 1 s (r .0), leb-true s n (r .1), leb-true 1 t (q .1), leb-true t n (p .1))
+
+-- there is such an arc
+known-arc-fine : (m arc : ℕ) → knownArc m arc ≡ Fine → (1 ≤ arc) × (arc ≤ m)
+known-arc-fine m arc e = let p = and-true (leb 1 arc) (leb arc m) (passed _ _ e) in (leb-true 1 arc (p .0), leb-true arc m (p .1))
 
 -- what a search is lent, where it was judged fine
 pub record SearchLent (n m : ℕ) (R : Rows) (s t places : ℕ) : Type 0 where
@@ -67,6 +70,28 @@ module _ (n m : ℕ) (R : Rows) (s t places : ℕ) where
       let l = q .0 in
       (search-lent (l .sound) (q .1) (both-fine (ends n s t) Fine (p .1) .0), l .x-long, l .y-long, shapes-fine m boxes (l .boxes-long) (r .1))
 
+-- ---- Why not by an arc
+
+module _ (n m : ℕ) (R : Rows) (s t arc : ℕ) where
+  -- what is lent is what a search is lent, with room for any route, and there is such an arc
+  pub why-fine : whyJudged n m R s t arc ≡ Fine → SearchLent n m R s t n × (1 ≤ arc) × (arc ≤ m)
+  unfolding whyJudged
+  why-fine e =
+      let p = both-fine (networkJudged n m R true) _ e in
+      let q = both-fine (ends n s t) _ (p .1) in
+      let a = known-arc-fine m arc (both-fine (knownArc m arc) Fine (q .1) .0) in
+      (search-lent n m R s t n (network-fine n m R true (p .0) .0) (le-leb n n (omega arith)) (q .0), a .0, a .1)
+
+  -- where a search is judged fine, so is this for each of its arcs
+  pub search-why : (places : ℕ) → searchJudged n m R s t places ≡ Fine → 1 ≤ arc → arc ≤ m → whyJudged n m R s t arc ≡ Fine
+  unfolding searchedBy searchJudged whyJudged
+  search-why places e low high =
+      let p = both-fine (networkJudged n m R (leb n places)) _ e in
+      let room = network-fine n m R (leb n places) (p .0) .1 in
+      let net : networkJudged n m R true ≡ Fine = rw room at (p .0) in
+      let good : ends n s t ≡ Fine = both-fine (ends n s t) Fine (p .1) .0 in
+      rw (net, good, le-leb 1 arc low, le-leb arc m high) refl
+
 -- ---- The box work
 
 module _ (n m : ℕ) (R : Rows) (x y boxes : List ℤ) where
@@ -87,11 +112,11 @@ module _ (n m : ℕ) (R : Rows) (x y boxes : List ℤ) where
       let p = both-fine (checkJudged n m R x y boxes) _ e in
       let c = both-fine (change m arc weight closure) Fine (p .1) .0 in
       let r = both-fine (reweighing m arc weight) _ c in
-      let q = both-fine (passes (leb 1 arc && leb arc m) NotInNetwork) _ (r .0) in
-      let a = and-true (leb 1 arc) (leb arc m) (passed _ _ (q .0)) in
+      let q = both-fine (knownArc m arc) _ (r .0) in
+      let a = known-arc-fine m arc (q .0) in
       let w = passed (leb weight 1_000_000) _ (both-fine _ Fine (q .1) .0) in
       let k = passed (leb closure 1) _ (both-fine _ Fine (r .1) .0) in
-      (p .0, leb-true 1 arc (a .0), leb-true arc m (a .1), leb-true weight 1_000_000 w, leb-true closure 1 k)
+      (p .0, a .0, a .1, leb-true weight 1_000_000 w, leb-true closure 1 k)
 
   pub shaped-judged : BoxesLent n m R x y boxes → ((e : ℕ) → 1 ≤ e → e ≤ m → WellShaped (boxOf boxes e)) → checkJudged n m R x y boxes ≡ Fine
   unfolding checkJudged shapedBy

@@ -65,9 +65,13 @@ shapes m boxes = each (goodBox boxes) BadBox m
 abbrev pub ends : ℕ → ℕ → ℕ → Judged
 ends n s t = passes (leb 1 s && leb s n && leb 1 t && leb t n) NotInNetwork
 
--- 11, 5: there is such an arc, and its new weight is within the limit
+-- 11: there is such an arc
+abbrev pub knownArc : ℕ → ℕ → Judged
+knownArc m arc = passes (leb 1 arc && leb arc m) NotInNetwork
+
+-- 11, 5: and its new weight is within the limit
 abbrev pub reweighing : ℕ → ℕ → ℕ → Judged
-reweighing m arc weight = inTurn (passes (leb 1 arc && leb arc m) NotInNetwork ∷ passes (leb weight mostWeight) (BeyondLimits 0) ∷ [])
+reweighing m arc weight = inTurn (knownArc m arc ∷ passes (leb weight mostWeight) (BeyondLimits 0) ∷ [])
 
 -- 11, 5, 14: and its new closure is 0 or 1
 abbrev pub change : ℕ → ℕ → ℕ → ℕ → Judged
@@ -104,6 +108,10 @@ module _ (n m : ℕ) (R : Rows) where
   -- a search: 5, 2, 8, 14, 11, and then 12
   unfoldable pub searchJudged : ℕ → ℕ → ℕ → Judged
   searchJudged s t places = searchedBy (networkJudged n m R) n s t places
+
+  -- why not by an arc, which is lent no route row: 5, 2, 8, 14, 11 for source, target or arc, and then 12
+  unfoldable pub whyJudged : ℕ → ℕ → ℕ → Judged
+  whyJudged s t arc = inTurn (networkJudged n m R true ∷ ends n s t ∷ knownArc m arc ∷ [])
 
   module _ (x y boxes : List ℤ) where
     -- a search with boxes: 5, 2, 8, 14, 9, 10, 11, and then 12

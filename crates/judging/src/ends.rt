@@ -1,6 +1,6 @@
 // Refusal 11, of a source, target or arc that is not in the network, 5 of a new weight, and 14 of a new closure.
 ghost use mathlib.Core.Path.{_≡_};
-ghost use Rattle.judging.specs.Order.{ends, change};
+ghost use Rattle.judging.specs.Order.{ends, knownArc, change};
 use crate::sizes::unless;
 use rules::Judged;
 use rules::Refusal;
@@ -13,6 +13,13 @@ pub fn judge_ends(n: u32, s: u32, t: u32) -> Judged
         (1 <= s) & (s <= n) & (1 <= t) & (t <= n),
         Refusal::NotInNetwork,
     )
+}
+
+// Refusal 11 where there is no such arc.
+pub fn judge_known_arc(m: u32, arc: u32) -> Judged
+    ensures { λ r. ⌜ r ≡ knownArc m arc ⌝ }
+{
+    unless((1 <= arc) & (arc <= m), Refusal::NotInNetwork)
 }
 
 // Refusal 11 where there is no such arc, 5 where its new weight is beyond the limit, and 14 where its new closure is neither 0 nor 1.

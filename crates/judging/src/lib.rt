@@ -2,9 +2,10 @@
 // `network`, the calls here.
 ghost use mathlib.Core.Path.{_≡_};
 ghost use Rattle.walks.specs.Rows.{rows};
-ghost use Rattle.judging.specs.Order.{searchJudged, boxedJudged, buildJudged, checkJudged, updateJudged};
+ghost use Rattle.judging.specs.Order.{searchJudged, whyJudged, boxedJudged, buildJudged, checkJudged, updateJudged};
 use ends::judge_change;
 use ends::judge_ends;
+use ends::judge_known_arc;
 use network::judge_network;
 use network::judge_placed;
 use network::judge_shaped;
@@ -37,6 +38,31 @@ pub fn judge_search(
         return a;
     };
     judge_ends(n, s, t)
+}
+
+// Why not by an arc: 5, 2, 8, 14, 11.
+pub fn judge_why(
+    n: u32,
+    m: u32,
+    tails: &[u32],
+    heads: &[u32],
+    weights: &[u32],
+    closures: &[u8],
+    s: u32,
+    t: u32,
+    arc: u32,
+) -> Judged
+    ensures { λ r. ⌜ r ≡ whyJudged n m (rows (now (tails .entry)) (now (heads .entry)) (now (weights .entry)) (now (closures .entry))) s t arc ⌝ }
+{
+    let a = judge_network(n, m, tails, heads, weights, closures, true);
+    let Judged::Fine = a else {
+        return a;
+    };
+    let b = judge_ends(n, s, t);
+    let Judged::Fine = b else {
+        return b;
+    };
+    judge_known_arc(m, arc)
 }
 
 // A search with boxes: 5, 2, 8, 14, 9, 10, 11.

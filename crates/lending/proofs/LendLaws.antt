@@ -87,6 +87,7 @@ module _ (values : List (List ℕ)) where
   verb-promised verb.Update ws e = with-pair (pairIn ws) _ (λ arc weight. with-number (byte (word 2 ws)) (λ b. request.Call (call.Update arc weight b)))
   verb-promised verb.Search ws e = with-pair (pairIn ws) _ (λ s t. record {})
   verb-promised verb.Boxed ws e = with-pair (pairIn ws) _ (λ s t. record {})
+  verb-promised verb.Why ws e = with-pair (pairIn ws) _ (λ s t. with-number (number (word 2 ws)) (λ e. request.Call (call.Why s t e)))
   verb-promised (verb.Write format) ws e = record {}
   verb-promised (verb.Save format) ws e = record {}
   verb-promised verb.Fresh ws e = record {}

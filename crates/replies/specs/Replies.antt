@@ -12,6 +12,8 @@ use Rattle.commands.specs.declared.Fault.{Fault}
 use Rattle.commands.specs.declared.Fault.the-variants.{LongLine, EmptyLine, ControlByte, EmptyWord, NoCommand, WordCount, NoRow, LongRow, Misspelt, BeyondType, FewerLent}
 use Rattle.search.specs.declared.Answer.{Answer}
 use Rattle.search.specs.declared.Answer.the-variants as answer
+use Rattle.reasons.specs.declared.WhyNot.{WhyNot}
+use Rattle.reasons.specs.declared.WhyNot.the-variants as why
 use Rattle.writing.specs.declared.WriteReply.{WriteReply}
 use Rattle.writing.specs.declared.WriteReply.the-variants as write
 
@@ -21,7 +23,7 @@ okLine = bytes "ok\n"
 unfoldable pub helpLine : List ℕ
 helpLine =
     bytes "commands: n N, m M, lend ROW VALUES, show ROW, show ROW K, gr FILE, co FILE, build, check, "
-    ++ bytes "update ARC WEIGHT BYTE, search S T, boxed S T, write gr, write co, save gr FILE, save co FILE, fresh, help; rows: tails, heads, weights, x, y, boxes, route, text, closed\n"
+    ++ bytes "update ARC WEIGHT BYTE, search S T, boxed S T, why S T ARC, write gr, write co, save gr FILE, save co FILE, fresh, help; rows: tails, heads, weights, x, y, boxes, route, text, closed\n"
 
 -- `build`, `check`, `update`: `ok`, or why the call was refused
 unfoldable pub judgedLine : Judged → List ℕ
@@ -44,6 +46,16 @@ answerLine (answer.Found length arcs settled) route =
     ++ countsText (take arcs route)
     ++ bytes "\n"
 answerLine (answer.Refused r) route = refusalLine r
+
+-- `why`: the reason's number and its words, with the excess where the best way is longer; or why the question was refused
+unfoldable pub reasonLine : WhyNot → List ℕ
+reasonLine why.Closed = bytes "ok 1 (the track is closed)\n"
+reasonLine why.CutOff = bytes "ok 2 (its start cannot be reached, or the target not from its end)\n"
+reasonLine (why.Longer excess) =
+    bytes "ok 3 " ++ decimal excess ++ bytes " (the best way through it is longer by " ++ decimal excess ++ bytes ")\n"
+reasonLine why.Tied = bytes "ok 4 (an equally short way uses it, and the tie rule picked another)\n"
+reasonLine why.OnRoute = bytes "ok 5 (it is on the route)\n"
+reasonLine (why.Refused r) = refusalLine r
 
 -- `write`, `save`: the text's length, or why the writer refused
 unfoldable pub writtenLine : WriteReply → List ℕ

@@ -27,7 +27,7 @@ pub fn put_help(page: &mut [u8; PAGE]) -> usize
     put(
         page,
         a,
-        b"update ARC WEIGHT BYTE, search S T, boxed S T, write gr, write co, save gr FILE, save co FILE, fresh, help; rows: tails, heads, weights, x, y, boxes, route, text, closed\n",
+        b"update ARC WEIGHT BYTE, search S T, boxed S T, why S T ARC, write gr, write co, save gr FILE, save co FILE, fresh, help; rows: tails, heads, weights, x, y, boxes, route, text, closed\n",
     )
 }
 

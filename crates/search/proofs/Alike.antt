@@ -33,7 +33,7 @@ walk : {N F : Net} → Alike N F → {u v l k : ℕ} → Walk N u v l k → Walk
 walk x empty = empty
 walk x (then {l = l} e a w) = ends-at (sym (x .head e a)) (sized (ap (λ (y : ℕ). l + y) (sym (x .weight e a))) refl (longer e (x .there e a) (sym (x .tail e a)) (walk x w)))
 
-reached : {N F : Net} → Alike N F → {u v : ℕ} → Reached N u v → Reached F u v
+pub reached : {N F : Net} → Alike N F → {u v : ℕ} → Reached N u v → Reached F u v
 reached x r = record { length = r .length; count = r .count; walk = walk x (r .walk) }
 
 module _ {N F : Net} (x : Alike N F) {s : ℕ} where
@@ -55,7 +55,7 @@ module _ {N F : Net} (x : Alike N F) {s : ℕ} where
   }
 
 module _ {N F : Net} (x : Alike N F) {s : ℕ} where
-  route : {t : ℕ} {arcs : List ℕ} → Route N s t arcs → Route F s t arcs
+  pub route : {t : ℕ} {arcs : List ℕ} → Route N s t arcs → Route F s t arcs
   route start = start
   route (into {arcs = arcs} e c r) =
       into {arcs = arcs} e
@@ -78,7 +78,7 @@ module _ {N F : Net} (x : Alike N F) {n s t : ℕ} where
 
 -- S(e) is the same in both
 module _ {N F : Net} (x : Alike N F) where
-  dist : {u t d : ℕ} → Dist N u t d → Dist F u t d
+  pub dist : {u t d : ℕ} → Dist N u t d → Dist F u t d
   dist p = record { count = p .count; walk = walk x (p .walk); least = λ l j w. p .least l j (walk (other-way x) w) }
 
   pub inS-alike : {e t : ℕ} → InS N e t → InS F e t

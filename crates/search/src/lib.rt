@@ -6,7 +6,7 @@ use rules::Judged;
 use rules::Refusal;
 use settling::Toward;
 
-mod find;
+pub mod find;
 
 // What a search answers: the route's length, its arc count and the settled count, or why it was refused.
 pub enum Answer {

@@ -10,10 +10,10 @@ use Rattle.walks.specs.Rows.{Rows, Sound, network}
 use Rattle.walks.specs.Through.{InS}
 use Rattle.settling.proofs.Choice.{cond-by}
 use Rattle.drawing.specs.Leads.{leadsTo}
+use Rattle.reasons.specs.Using.{Among}
 use Rattle.boxwork.proofs.TightLaws.{inS-range}
 use Rattle.boxwork.proofs.Meaning.{leads-inS, inS-leads}
 use Rattle.worked.proofs.Computed.{membersFrom, membersOf}
-use Rattle.worked.specs.Table.{Among}
 
 module _ (leads : ℕ → Bool) where
   members-in : (fuel t v : ℕ) → Among v (membersFrom leads fuel t) → (t ≤ v) × (v < t + fuel) × (leads v ≡ true)

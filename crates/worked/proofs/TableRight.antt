@@ -18,17 +18,20 @@ use Rattle.settling.specs.Nearest.{better, leaderOf, nearestOf}
 use Rattle.settling.specs.Run.{afterPick, runOf}
 use Rattle.settling.specs.Trace.{fits, firstOf, arcFits, intoOf, afterInto, traceOf}
 use Rattle.settling.specs.LengthsTo.{onShortest}
-use Rattle.judging.specs.Order.{arcsJudged, networkJudged, searchedBy, placedBy, shapedBy, searchJudged, boxedJudged, buildJudged, checkJudged, updateJudged}
+use Rattle.judging.specs.Order.{arcsJudged, networkJudged, searchedBy, placedBy, shapedBy, searchJudged, boxedJudged, buildJudged, checkJudged, updateJudged, whyJudged}
 use Rattle.judging.proofs.StageLaws.{network-fine}
 use Rattle.drawing.specs.Leads.{leadsAt, lengthsTo}
 use Rattle.drawing.specs.Grown.{grownIf, grownBy}
 use Rattle.drawing.specs.Missed.{missesNode}
+use Rattle.reasons.specs.Using.{Among}
+use Rattle.reasons.specs.Steps.{isAmong}
+use Rattle.reasons.proofs.Computed.{reasonBy, reasonOf, judgedReply, replyOf, reply-says}
 use Rattle.worked.specs.Plans.{hall, reweightedHall, closedHall, shutHall, oneWay, zeros, behind, west, triangle, detour, closedTriangle, bridge, liftedBridge, hallBoxes, closedBoxes, raisedBoxes, fullBoxes, treeBoxes, triangleBoxes, mendedBoxes, route}
 use Rattle.worked.proofs.Computed.{orTold, answerOf, searchTold, boxedTold, drawnTo, buildTold, updateTold, lowestNode, orArc, lowestArc, checkTold, membersFrom, membersOf}
 use Rattle.worked.proofs.ComputedLaws.{search-told, boxed-told, build-told, check-told, update-told}
 use Rattle.worked.proofs.MembersLaws.{members-are}
 use Rattle.worked.proofs.Tests.{sameNumbers, same-numbers, sameTold, same-told, walks, walks-by}
-use Rattle.worked.specs.Table.{Told, Call, search, boxed, build, check, update, Says, Among, Case, set, walk, call, Right, Each, no-line, line, table, TableRight}
+use Rattle.worked.specs.Table.{Told, Call, search, boxed, build, check, update, why, Says, Case, set, walk, call, Right, Each, no-line, line, table, TableRight}
 
 abbrev pub toldOf : Call → Told
 toldOf (search p s t) = searchTold (p .nodes) (p .arcs) (p .rows) s t route
@@ -36,6 +39,7 @@ toldOf (boxed p boxes s t) = boxedTold (p .nodes) (p .arcs) (p .rows) (p .x) (p 
 toldOf (build p before) = buildTold (p .nodes) (p .arcs) (p .rows) (p .x) (p .y) before
 toldOf (check p boxes) = checkTold (p .nodes) (p .arcs) (p .rows) (p .x) (p .y) boxes
 toldOf (update p boxes arc weight closure) = updateTold (p .nodes) (p .arcs) (p .rows) (p .x) (p .y) boxes arc weight closure
+toldOf (why p s t arc) = record { reply = replyOf (p .nodes) (p .arcs) (p .rows) s t arc; numbers = []; closures = []; boxes = [] }
 
 says : (c : Call) → Says c (toldOf c)
 says (search p s t) = search-told (p .nodes) (p .arcs) (p .rows) s t route
@@ -43,6 +47,7 @@ says (boxed p boxes s t) = boxed-told (p .nodes) (p .arcs) (p .rows) s t route (
 says (build p before) = build-told (p .nodes) (p .arcs) (p .rows) (p .x) (p .y) before
 says (check p boxes) = check-told (p .nodes) (p .arcs) (p .rows) (p .x) (p .y) boxes
 says (update p boxes arc weight closure) = update-told (p .nodes) (p .arcs) (p .rows) (p .x) (p .y) boxes arc weight closure
+says (why p s t arc) = reply-says (p .nodes) (p .arcs) (p .rows) s t arc
 
 unfoldable pub passes : Case → Bool
 passes (set p e nodes) =
@@ -79,7 +84,8 @@ unfolding
     table allPass passes hall reweightedHall closedHall shutHall oneWay zeros behind west triangle detour closedTriangle bridge liftedBridge
     hallBoxes closedBoxes raisedBoxes fullBoxes treeBoxes triangleBoxes mendedBoxes
     orTold answerOf searchTold boxedTold drawnTo buildTold updateTold lowestNode orArc lowestArc checkTold membersFrom
-    arcsJudged networkJudged searchedBy placedBy shapedBy searchJudged boxedJudged buildJudged checkJudged updateJudged each smaller larger
+    arcsJudged networkJudged searchedBy placedBy shapedBy searchJudged boxedJudged buildJudged checkJudged updateJudged whyJudged each smaller larger
     before startOf labelled offered marked arcStep relaxed settleOf better leaderOf nearestOf afterPick runOf
     fits firstOf arcFits intoOf afterInto traceOf onShortest leadsAt lengthsTo grownIf grownBy missesNode
+    isAmong reasonBy reasonOf judgedReply replyOf
 table-right = each-right table refl

@@ -1,9 +1,8 @@
--- The starred lines of 01, the errors that learners bring, and the closed tracks of request b: one table under one statement. The
--- statement is made of the functions' own relations, so that each line says what a function replies and writes. `table-right` in
+-- The starred lines of 01, the errors that learners bring, the closed tracks of request b and the reasons of request e: one table
+-- under one statement. The statement is made of the functions' own relations, so that each line says what a function replies and writes. `table-right` in
 -- proofs/TableRight.antt proves it.
 use Prim.Native.Nat.{ℕ}
-use mathlib.Core.Path.{_≡_}
-use mathlib.Core.Logic.{_⊎_, _↔_}
+use mathlib.Core.Logic.{_↔_}
 use mathlib.Core.List.{List, [], _∷_}
 use lib.IntN.{ℤ, pos, negsuc}
 use lib.ListN.{replicate}
@@ -14,6 +13,10 @@ use Rattle.walks.specs.Walk.{WalkBy}
 use Rattle.walks.specs.Rows.{rows, network}
 use Rattle.walks.specs.Through.{InS}
 use Rattle.search.specs.Says.{SearchSays, BoxedSays}
+use Rattle.reasons.specs.Using.{Among}
+use Rattle.reasons.specs.Reason.{Reason, closed, cut-off, longer, tied, on-route}
+use Rattle.reasons.specs.Paper as reasons
+use Rattle.reasons.specs.Says.{WhySays}
 use Rattle.boxwork.specs.Says.{BuildSays, CheckSays, UpdateSays}
 use Rattle.worked.specs.Plans.{Plan, hall, reweightedHall, closedHall, shutHall, oneWay, zeros, behind, west, triangle, detour, closedTriangle, bridge, liftedBridge, hallBoxes, closedBoxes, raisedBoxes, fullBoxes, treeBoxes, triangleBoxes, mendedBoxes, blank, route}
 
@@ -31,6 +34,7 @@ pub data Call : Type 0 where
   build : (plan : Plan) (before : List ℤ) → Call
   check : (plan : Plan) (boxes : List ℤ) → Call
   update : (plan : Plan) (boxes : List ℤ) (arc weight closure : ℕ) → Call
+  why : (plan : Plan) (source target arc : ℕ) → Call
 
 -- the call replies and writes this
 abbrev pub Says : Call → Told → Type 0
@@ -40,11 +44,7 @@ Says (build p before) z = BuildSays (p .nodes) (p .arcs) (p .rows) (p .x) (p .y)
 Says (check p boxes) z = CheckSays (p .nodes) (p .arcs) (p .rows) (p .x) (p .y) boxes (z .reply)
 Says (update p boxes arc weight closure) z =
     UpdateSays (p .nodes) (p .arcs) (p .rows) (p .x) (p .y) boxes arc weight closure (z .reply) (rows (p .rows .tails) (p .rows .heads) (z .numbers) (z .closures)) (z .boxes)
-
--- v is one of a list's numbers
-abbrev pub Among : ℕ → List ℕ → Type 0
-Among v [] = ⊥
-Among v (u ∷ us) = (v ≡ u) ⊎ Among v us
+Says (why p s t arc) z = WhySays (p .nodes) (p .arcs) (p .rows) s t arc (z .reply)
 
 -- A line of the table
 pub data Case : Type 0 where
@@ -85,6 +85,9 @@ draws boxes = record { reply = accepted []; numbers = []; closures = []; boxes =
 
 abbrev writes : List ℕ → List ℕ → List ℤ → Told
 writes weights closures boxes = record { reply = accepted []; numbers = weights; closures = closures; boxes = boxes }
+
+abbrev because : Reason → Told
+because r = record { reply = reasons.told r; numbers = []; closures = []; boxes = [] }
 
 -- ---- The table
 
@@ -150,6 +153,23 @@ table =
     -- Weight 1,000,000 is an ordinary time, and a closed track not a slow one: over the lifted bridge 1 to 2 is 12, settled 1.
     ∷ call (search bridge 1 2) (found mostWeight 1 2 (1 ∷ 0 ∷ 0 ∷ 0 ∷ []))
     ∷ call (search liftedBridge 1 2) (noWalk 1 route)
+    -- Request e. From 1 to 4 by arcs 3 and 4: the walk by arcs 1, 2 and 4 ties, arc 5 takes 3 longer, and over arc 6 once round 10.
+    ∷ call (why hall 1 4 1) (because tied)
+    ∷ call (why hall 1 4 2) (because tied)
+    ∷ call (why hall 1 4 3) (because on-route)
+    ∷ call (why hall 1 4 4) (because on-route)
+    ∷ call (why hall 1 4 5) (because (longer 3))
+    ∷ call (why hall 1 4 6) (because (longer 10))
+    -- With arc 3 closed the tie is on the route.
+    ∷ call (why closedHall 1 4 3) (because closed)
+    ∷ call (why closedHall 1 4 1) (because on-route)
+    -- With arcs 1, 3 and 5 closed 12 comes before the closure of arc 3. From 4 to 1 the start of arc 2 cannot be reached.
+    ∷ call (why shutHall 1 4 3) (noWalk 1 [])
+    ∷ call (why shutHall 4 1 2) (because cut-off)
+    -- Only arc 2 to 1, and from 2 to 2 by no arc: 2 cannot be reached from the arc's end.
+    ∷ call (why oneWay 2 2 1) (because cut-off)
+    -- With the triangle's arc 3 closed: from 2 its start cannot be reached either, but closed comes first.
+    ∷ call (why closedTriangle 2 3 3) (because closed)
     ∷ []
 
 -- THE STATEMENT of the table: every line is right

@@ -15,6 +15,10 @@ returns-2 : tie.Need-returns-2
 returns-2 c =
     (made (ap tripCall (c .before .before .before .before .before .before .before .before .trip2 .given .1)) (Makes.boxed _ (c .before .before .before .before .before .search-boxed .ensures)) (c .put-answer2 .ensures .0), omega arith)
 
+returns-3 : tie.Need-returns-3
+returns-3 c =
+    (made (ap tripCall (c .before .before .before .before .trip3 .given .1)) (Makes.why _ (c .before .before .why .ensures)) (c .put-reason .ensures .0), omega arith)
+
 pub make-trip-spec : {M : Type 1} → statement M
 make-trip-spec =
     tie.close
@@ -22,4 +26,6 @@ make-trip-spec =
     (λ c. search needs) (λ c κs. search needs) (λ c κs. search needs) (λ c. search needs)
     returns
     (λ c. search needs) (λ c κs. search needs) (λ c κs. search needs) (λ c. search needs)
-    returns-2)
+    returns-2
+    (λ c. search needs) (λ c κs. search needs) (λ c κs. search needs)
+    returns-3)

@@ -19,13 +19,17 @@ returns-4 c = sym (c .before .call2 .given .1)
 returns-5 : tie.Need-returns-5
 returns-5 c = sym (c .before .call3 .given .1)
 
+returns-6 : tie.Need-returns-6
+returns-6 c = sym (c .before .call4 .given .1)
+
 pub task-of-spec : {M : Type 1} → statement M
 task-of-spec =
     tie.close
     (tie.spec
-    (λ c. search needs) (λ c. search needs) (λ c. search needs) (λ c. search needs) (λ c. search needs)
+    (λ c. search needs) (λ c. search needs) (λ c. search needs) (λ c. search needs) (λ c. search needs) (λ c. search needs)
     returns
     returns-2
     returns-3
     returns-4
-    returns-5)
+    returns-5
+    returns-6)

@@ -68,15 +68,15 @@ returns-15 c = rw (c .before .before .before .before .enum-told11 .given .1) (sy
 
 returns-16 : tie.Need-returns-16
 unfolding asked
-returns-16 c = rw (c .before .verb .given .1)
+returns-16 c = rw (c .before .enum-told12 .given .1) (c .why-of .ensures)
 
 returns-17 : tie.Need-returns-17
 unfolding asked
-returns-17 c = rw (c .before .verb2 .given .1)
+returns-17 c = rw (c .before .verb .given .1)
 
 returns-18 : tie.Need-returns-18
 unfolding asked
-returns-18 c = rw (c .enum-told12 .given .1)
+returns-18 c = rw (c .before .verb2 .given .1)
 
 returns-19 : tie.Need-returns-19
 unfolding asked
@@ -86,6 +86,10 @@ returns-20 : tie.Need-returns-20
 unfolding asked
 returns-20 c = rw (c .enum-told14 .given .1)
 
+returns-21 : tie.Need-returns-21
+unfolding asked
+returns-21 c = rw (c .enum-told15 .given .1)
+
 pub ask-spec : {M : Type 1} → statement M
 ask-spec =
     tie.close
@@ -94,8 +98,8 @@ ask-spec =
     (λ c κs. search needs) (λ c κs. search needs) (λ c. search needs) (λ c. search needs) (λ c. search needs) (λ c κs. search needs)
     (λ c. search needs) (λ c κs. search needs) (λ c. search needs) (λ c. search needs) (λ c. search needs) (λ c. search needs)
     (λ c. search needs) (λ c κs. search needs) (λ c. search needs) (λ c κs. search needs) (λ c. search needs) (λ c. search needs)
-    (λ c. search needs) (λ c κs. search needs) (λ c. search needs) (λ c. search needs) (λ c. search needs) (λ c. search needs)
-    (λ c. search needs) (λ c. search needs) (λ c. search needs)
+    (λ c. search needs) (λ c κs. search needs) (λ c. search needs) (λ c. search needs) (λ c. search needs) (λ c κs. search needs)
+    (λ c. search needs) (λ c. search needs) (λ c. search needs) (λ c. search needs) (λ c. search needs)
     returns
     returns-2
     returns-3
@@ -115,4 +119,5 @@ ask-spec =
     returns-17
     returns-18
     returns-19
-    returns-20)
+    returns-20
+    returns-21)

@@ -37,16 +37,22 @@ returns-11 : tie.Need-returns-11
 returns-11 c = rw (c .enum-told11 .given .1)
 
 returns-12 : tie.Need-returns-12
-returns-12 c = rw (c .before .verb .given .1)
+returns-12 c = rw (c .enum-told12 .given .1)
 
 returns-13 : tie.Need-returns-13
-returns-13 c = rw (c .before .verb2 .given .1)
+returns-13 c = rw (c .before .verb .given .1)
 
 returns-14 : tie.Need-returns-14
-returns-14 c = rw (c .enum-told12 .given .1)
+returns-14 c = rw (c .before .verb2 .given .1)
 
 returns-15 : tie.Need-returns-15
 returns-15 c = rw (c .enum-told13 .given .1)
+
+returns-16 : tie.Need-returns-16
+returns-16 c = rw (c .enum-told14 .given .1)
+
+returns-17 : tie.Need-returns-17
+returns-17 c = rw (c .enum-told15 .given .1)
 
 pub takes-spec : {M : Type 1} → statement M
 takes-spec =
@@ -54,7 +60,7 @@ takes-spec =
     (tie.spec
     (λ c. search needs) (λ c. search needs) (λ c. search needs) (λ c. search needs) (λ c. search needs) (λ c. search needs)
     (λ c. search needs) (λ c. search needs) (λ c. search needs) (λ c. search needs) (λ c. search needs) (λ c. search needs)
-    (λ c. search needs) (λ c. search needs) (λ c. search needs) (λ c. search needs)
+    (λ c. search needs) (λ c. search needs) (λ c. search needs) (λ c. search needs) (λ c. search needs)
     returns
     returns-2
     returns-3
@@ -70,4 +76,5 @@ takes-spec =
     returns-13
     returns-14
     returns-15
-    (λ c. search needs))
+    returns-16
+    returns-17)

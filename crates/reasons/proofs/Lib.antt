@@ -1,0 +1,11 @@
+pub mod UsingLaws
+pub mod ReasonLaws
+pub mod PaperLaws
+pub mod SaysLaws
+pub mod AmongLaws
+pub mod Ways
+pub mod Telling
+pub mod Finding
+pub mod Computed
+pub mod Claims
+pub mod Surplus
