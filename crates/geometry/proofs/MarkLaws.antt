@@ -1,7 +1,7 @@
 -- The mark holds nothing; the smallest well-shaped box is one only, though there may be no place; and what takes in a place.
 use mathlib.Core.Path.{_≡_, refl, sym, ap, subst, _∙_}
 use mathlib.Core.Bool.{false, false≢true}
-use mathlib.Core.Logic.{_⊎_, inl, inr, ⊎-elim}
+use mathlib.Core.Logic.{_⊎_, inr, ⊎-elim}
 use lib.IntN.{ℤ}
 use Rattle.rules.proofs.AndLaws.{same-test}
 use Rattle.geometry.specs.Box.{Box, Holds, holdsB, Within, Upright, Sided, mark, WellShaped, sides, nothing, Smallest}

@@ -1,5 +1,5 @@
 -- `judging::boxes::all_boxes_good` meets its contract. The loop's invariant: good tells whether the boxes up to at are.
-use Prim.Native.Nat.{_+_, _-_, _≤_}
+use Prim.Native.Nat.{_-_, _≤_}
 use mathlib.Core.Path.{_≡_, sym, ap, _∙_}
 use native.Mathlib.Omega.{arith}
 use Rattle.rules.specs.Judging.{isFine}
