@@ -96,6 +96,11 @@ no-span : Span (pos 1) (pos 0)
 unfolding shifted
 no-span = record { across = omega arith; below = omega arith }
 
+-- compared plainly, with the second side less the first and not one more, they would have every number between them
+pub plainly-all : (p q : ℕ) → p < 2 ^ 32 → q < 2 ^ 32 → (q + shifted (pos 1)) % 2 ^ 32 ≡ shifted (pos 0) → p ≤ q
+unfolding shifted
+plainly-all p q fp fq width = omega arith
+
 -- the sides of a well-shaped box
 pub span-across : {b : Box} → WellShaped b → Span (b .left) (b .right)
 span-across (sides s) = span (s .left-in) (s .right-in) (s .upright .across)

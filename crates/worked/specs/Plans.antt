@@ -6,7 +6,6 @@ use lib.ListN.{set, replicate}
 use Rattle.rules.specs.Limits.{mostWeight, leastCoordinate, mostCoordinate}
 use Rattle.walks.specs.Rows.{Rows, rows}
 use Rattle.geometry.specs.Box.{mark}
-use Rattle.geometry.specs.Hull.{placeBox}
 use Rattle.geometry.specs.Row.{withBox}
 use Rattle.boxwork.specs.Says.{changed}
 
@@ -38,6 +37,10 @@ reweightedHall = with hall (changed (hall .rows) 5 6 0)
 -- the hall with arc 3 closed
 unfoldable pub closedHall : Plan
 closedHall = with hall (changed (hall .rows) 3 5 1)
+
+-- the hall with arc 4 closed: to node 4 only arc 5 is left
+unfoldable pub cutHall : Plan
+cutHall = with hall (changed (hall .rows) 4 1 1)
 
 -- the hall with arcs 1, 3 and 5 closed: every track out of node 1
 unfoldable pub shutHall : Plan
@@ -124,9 +127,9 @@ hallBoxes =
     (box (pos 1) (pos 0) (pos 1) (pos 0)
     (box (pos 0) (pos 10) (pos 0) (pos 5) [])))))
 
--- arc 5's box at node 4
-unfoldable pub reweightedBoxes : List ℤ
-reweightedBoxes = withBox hallBoxes 5 (placeBox (negsuc 4) (pos 20))
+-- arc 5's box at node 4, where it leads there
+unfoldable pub ledBoxes : List ℤ
+ledBoxes = withBox hallBoxes 5 (record { left = negsuc 4; right = negsuc 4; low = pos 20; high = pos 20 })
 
 -- arc 5's left at 2 and not at 1, and its low and high no longer reversed: boxes with reversed sides that are not the mark
 unfoldable pub wideBoxes : List ℤ

@@ -18,7 +18,7 @@ use Rattle.reasons.specs.Reason.{Reason, closed, cut-off, longer, tied, on-rout
 use Rattle.reasons.specs.Paper as reasons
 use Rattle.reasons.specs.Says.{WhySays}
 use Rattle.boxwork.specs.Says.{BuildSays, CheckSays, UpdateSays}
-use Rattle.worked.specs.Plans.{Plan, hall, reweightedHall, closedHall, shutHall, oneWay, zeros, behind, west, triangle, detour, closedTriangle, bridge, liftedBridge, hallBoxes, reweightedBoxes, closedBoxes, raisedBoxes, wideBoxes, flatBoxes, fullBoxes, treeBoxes, triangleBoxes, mendedBoxes, blank, route}
+use Rattle.worked.specs.Plans.{Plan, hall, reweightedHall, closedHall, cutHall, shutHall, oneWay, zeros, behind, west, triangle, detour, closedTriangle, bridge, liftedBridge, hallBoxes, ledBoxes, closedBoxes, raisedBoxes, wideBoxes, flatBoxes, fullBoxes, treeBoxes, triangleBoxes, mendedBoxes, blank, route}
 
 -- a reply, with the route or weight row, the row of closures and the box row afterwards, where the call may write them
 pub record Told : Type 0 where
@@ -116,7 +116,7 @@ table =
     ∷ call (check hall raisedBoxes) (misses 3 3)
     ∷ call (check hall (fullBoxes 6)) yes
     -- Arc 5 reweighted to 6: 1 to 4 goes by arc 5 alone. Its box, the mark, takes the place of 4.
-    ∷ call (update hall hallBoxes 5 6 0) (writes (3 ∷ 2 ∷ 5 ∷ 1 ∷ 6 ∷ 4 ∷ []) (0 ∷ 0 ∷ 0 ∷ 0 ∷ 0 ∷ 0 ∷ []) reweightedBoxes)
+    ∷ call (update hall hallBoxes 5 6 0) (writes (3 ∷ 2 ∷ 5 ∷ 1 ∷ 6 ∷ 4 ∷ []) (0 ∷ 0 ∷ 0 ∷ 0 ∷ 0 ∷ 0 ∷ []) ledBoxes)
     ∷ call (search reweightedHall 1 4) (found 6 1 4 (5 ∷ 0 ∷ 0 ∷ 0 ∷ []))
     -- Two nodes, only arc 2 to 1: from 1 to 2 is 12, settled 1.
     ∷ call (search oneWay 1 2) (noWalk 1 route)
@@ -178,8 +178,11 @@ table =
     ∷ call (check hall wideBoxes) (badBox 5)
     ∷ call (check hall flatBoxes) (badBox 5)
     -- Back at its old time arc 5 leads nowhere, and an update leaves its box as it was.
-    ∷ call (update reweightedHall reweightedBoxes 5 9 0) (writes (3 ∷ 2 ∷ 5 ∷ 1 ∷ 9 ∷ 4 ∷ []) (0 ∷ 0 ∷ 0 ∷ 0 ∷ 0 ∷ 0 ∷ []) reweightedBoxes)
-    -- The test of request d, run on the mark: it lets the arc lead nowhere, so 2 to 1 is 12; and check misses node 1.
+    ∷ call (update reweightedHall ledBoxes 5 9 0) (writes (3 ∷ 2 ∷ 5 ∷ 1 ∷ 9 ∷ 4 ∷ []) (0 ∷ 0 ∷ 0 ∷ 0 ∷ 0 ∷ 0 ∷ []) ledBoxes)
+    -- With arc 4 closed arc 5 leads to node 4, which the mark does not hold: check gives 13, arc 5, node 4. An update mends it.
+    ∷ call (check cutHall hallBoxes) (misses 5 4)
+    ∷ call (update hall hallBoxes 4 1 1) (writes (3 ∷ 2 ∷ 5 ∷ 1 ∷ 9 ∷ 4 ∷ []) (0 ∷ 0 ∷ 0 ∷ 1 ∷ 0 ∷ 0 ∷ []) ledBoxes)
+    -- The test of request d, run on the mark: the arc may not be used, so 2 to 1 is 12; and check misses node 1.
     ∷ call (boxed oneWay (pos 1 ∷ pos 0 ∷ pos 1 ∷ pos 0 ∷ []) 2 1) (noWalk 1 route)
     ∷ call (check oneWay (pos 1 ∷ pos 0 ∷ pos 1 ∷ pos 0 ∷ [])) (misses 1 1)
     ∷ []
