@@ -74,10 +74,7 @@ struct Hand {
 
     void build() {
         int most = std::numeric_limits<int>::max();
-        for (size_t e = 0; e < boxes.size(); e++) {
-            boxes[e] = {most, -most, most, -most};
-            grow(e, net.arcs[e].head);
-        }
+        for (auto &box : boxes) box = {most, -most, most, -most};
         for (int t = 0; t < net.n; t++) {
             search(t, -1, in, false);
             for (size_t e = 0; e < boxes.size(); e++) {
@@ -85,5 +82,8 @@ struct Hand {
                 if (!arc.closed && key[arc.head] >= 0 && key[arc.tail] / 1024 == key[arc.head] / 1024 + arc.weight) grow(e, t);
             }
         }
+        // a box that nothing grew holds nothing
+        for (auto &box : boxes)
+            if (box[1] < box[0]) box = {1, 0, 1, 0};
     }
 };

@@ -1,4 +1,4 @@
-//! Boxes: what they hold, the set S(e), the tight box, and what a box misses.
+//! Boxes: what they hold, the mark of request f, the set S(e), the tight box, and what a box misses.
 
 use crate::network::{lengths, open, Arc};
 use crate::sizes::is_coordinate;
@@ -15,6 +15,9 @@ pub struct Rectangle {
 }
 
 impl Rectangle {
+    /// The mark: it holds nothing.
+    pub const MARK: Rectangle = Rectangle { left: 1, right: 0, low: 1, high: 0 };
+
     fn around(place: Place) -> Rectangle {
         Rectangle { left: place.0, right: place.0, low: place.1, high: place.1 }
     }
@@ -23,17 +26,22 @@ impl Rectangle {
         self.left <= place.0 && place.0 <= self.right && self.low <= place.1 && place.1 <= self.high
     }
 
+    /// The mark is the only box with reversed sides that is well shaped.
     pub fn well_shaped(&self) -> bool {
-        self.left <= self.right && self.low <= self.high && self.sides().into_iter().all(is_coordinate)
+        let upright = self.left <= self.right && self.low <= self.high;
+        *self == Rectangle::MARK || upright && self.sides().into_iter().all(is_coordinate)
     }
 
-    /// The smallest box that holds both.
+    /// The smallest box that holds both; joined with the mark a box stays itself.
     pub fn hull(&self, other: &Rectangle) -> Rectangle {
-        Rectangle {
-            left: self.left.min(other.left),
-            right: self.right.max(other.right),
-            low: self.low.min(other.low),
-            high: self.high.max(other.high),
+        match (*self, *other) {
+            (Rectangle::MARK, one) | (one, Rectangle::MARK) => one,
+            (one, other) => Rectangle {
+                left: one.left.min(other.left),
+                right: one.right.max(other.right),
+                low: one.low.min(other.low),
+                high: one.high.max(other.high),
+            },
         }
     }
 
@@ -57,12 +65,10 @@ pub fn all_s(n: usize, arcs: &[Arc]) -> Vec<Vec<usize>> {
     arcs.iter().map(|arc| (1..=n).filter(|t| in_s(arc, *t)).collect()).collect()
 }
 
-/// For every arc the smallest box that holds its head and all of its S(e). `places` are indexed by node.
+/// For every arc the smallest box that holds all of its S(e), the mark where that is empty. `places` are indexed by node.
 pub fn tight(n: usize, arcs: &[Arc], places: &[Place]) -> Vec<Rectangle> {
-    let around = |node: usize| Rectangle::around(places[node]);
-    let grow =
-        |arc: &Arc, s: Vec<usize>| s.into_iter().fold(around(arc.head), |grown, t| grown.hull(&around(t)));
-    arcs.iter().zip(all_s(n, arcs)).map(|(arc, s)| grow(arc, s)).collect()
+    let grow = |grown: Rectangle, t: usize| grown.hull(&Rectangle::around(places[t]));
+    all_s(n, arcs).into_iter().map(|s| s.into_iter().fold(Rectangle::MARK, grow)).collect()
 }
 
 /// The lowest arc whose box misses a node of its S(e), with the lowest node it misses.

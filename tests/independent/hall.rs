@@ -1,4 +1,4 @@
-//! The hall plan of 01, word for word.
+//! The hall plan of 01, word for word, with line 5 of the listing as request f has it.
 
 use crate::cases::Case;
 use crate::console::HELP;
@@ -12,16 +12,16 @@ pub const LISTING: &str = "\
 2 2 3 2 -5 10 0 20
 3 1 3 5 -5 10 5 20
 4 3 4 1 -5 10 0 20
-5 1 4 9 -5 -5 20 20
+5 1 4 9 1 0 1 0
 6 4 1 4 0 10 0 5
 ";
 
 /// Its lines as console commands with the replies; the plan is read from `hall.gr` and `hall.co`.
-pub const TALK: [(&str, &str); 46] = [
+pub const TALK: [(&str, &str); 47] = [
     ("gr hall.gr", "ok 4 6"),
     ("co hall.co", "ok"),
     ("build", "ok"),
-    ("show boxes 24", "boxes -5 10 0 20 -5 10 0 20 -5 10 5 20 -5 10 0 20 -5 -5 20 20 0 10 0 5"),
+    ("show boxes 24", "boxes -5 10 0 20 -5 10 0 20 -5 10 5 20 -5 10 0 20 1 0 1 0 0 10 0 5"),
     ("check", "ok"),
     ("boxed 1 4", "ok 6 2 4 3 4"),
     ("search 1 4", "ok 6 2 4 3 4"),
@@ -44,6 +44,7 @@ pub const TALK: [(&str, &str); 46] = [
     ("build", "ok"),
     ("update 5 6 0", "ok"),
     ("show weights 6", "weights 3 2 5 1 6 4"),
+    ("show boxes 24", "boxes -5 10 0 20 -5 10 0 20 -5 10 5 20 -5 10 0 20 -5 -5 20 20 0 10 0 5"),
     ("check", "ok"),
     ("boxed 1 4", "ok 6 1 4 5"),
     ("search 1 4", "ok 6 1 4 5"),

@@ -1,4 +1,4 @@
-//! The independent program: document 01 and requests a to e of 02 a second time, from their words alone, to compare the crates with.
+//! The independent program: document 01 and requests a to f of 02 a second time, from their words alone, to compare the crates with.
 //! It is built by: rustc -O --edition 2021 -o target/independent tests/independent/main.rs
 
 mod boxes;
@@ -13,6 +13,7 @@ mod files;
 mod hall;
 mod lent;
 mod limits;
+mod marks;
 mod network;
 mod plans;
 mod random;

@@ -1,5 +1,6 @@
 //! Random plans: networks, closures, places, boxes, lent rows with surplus, and what can be wrong with them.
 
+use crate::boxes::Rectangle;
 use crate::calls::build;
 use crate::console::{Kind, ROWS};
 use crate::lent::{fill, Lent};
@@ -99,35 +100,54 @@ fn draw_places(random: &mut Random, lent: &mut Lent) {
     }
 }
 
-/// Leaves the boxes tight, or makes them enlarged, full, wholly random but well shaped,
-/// or one of them smaller on one side.
+/// Leaves the boxes tight, or makes them enlarged, full, wholly random but well shaped, marks here and there
+/// or everywhere, or one of them smaller on one side.
 pub fn change_boxes(random: &mut Random, lent: &mut Lent) {
-    let kind = random.below(6);
+    let kind = random.below(8);
     for sides in lent.boxes.chunks_mut(4) {
         match kind {
-            0 => {
+            // A mark has no sides to move: it stays, or is any box.
+            0 if is_mark(sides) && random.once_in(2) => (),
+            0 if !is_mark(sides) => {
                 for (side, away) in sides.iter_mut().zip([-1, 1, -1, 1]) {
                     *side = (*side + away * random.between(0, 5)).clamp(-COORDINATE, COORDINATE);
                 }
             }
             1 => fill(sides, [-COORDINATE, COORDINATE, -COORDINATE, COORDINATE]),
-            2 => {
+            0 | 2 => {
                 for axis in sides.chunks_mut(2) {
                     fill(axis, [random.between(-9, 9), random.between(-9, 9)]);
                     axis.sort();
                 }
             }
+            4 if random.once_in(2) => fill(sides, Rectangle::MARK.sides()),
+            5 => fill(sides, Rectangle::MARK.sides()),
             _ => (),
         }
     }
     if kind == 3 && lent.m > 0 {
         let side = random.below(lent.boxes.len());
+        if is_mark(&lent.boxes[side / 4 * 4..][..4]) {
+            return;
+        }
         let inward = if side % 2 == 0 { 1 } else { -1 };
         let other = lent.boxes[side ^ 1];
         let moved = lent.boxes[side] + inward * random.between(1, 12);
         lent.boxes[side] = if inward == 1 { moved.min(other) } else { moved.max(other) };
     }
 }
+
+fn is_mark(sides: &[i64]) -> bool {
+    Rectangle::from_sides(sides) == Rectangle::MARK
+}
+
+/// Boxes that are nearly the mark, or reversed like it. None of them is well shaped.
+#[rustfmt::skip]
+pub const NEAR_MARKS: [[i64; 4]; 18] = [
+    [1, 0, 1, 1], [1, 0, 0, 0], [1, 1, 1, 0], [0, 0, 1, 0], [1, 0, 0, 1], [0, 1, 1, 0], [1, 0, 2, 1], [2, 1, 1, 0],
+    [2, 1, 2, 1], [0, -1, 0, -1], [-1, -2, -1, -2], [1, 0, 1, -1], [1, -1, 1, 0], [2, 0, 1, 0], [1, 0, 2, 0],
+    [1, 0, -1, 0], [COORDINATE, -COORDINATE, COORDINATE, -COORDINATE], [1, 0, FAR_EAST, FAR_WEST],
+];
 
 /// Adds places after those needed, filled with numbers that would be refused if they were read.
 pub fn add_surplus(random: &mut Random, lent: &mut Lent) {
@@ -170,7 +190,7 @@ pub fn spoil(random: &mut Random, lent: &mut Lent, asked: &mut Asked) {
     let no_weight = random.pick(&[WEIGHT + 1, FAR]);
     let no_closure = random.pick(&[2, 3, 255]);
     let no_coordinate = random.pick(&[-COORDINATE - 1, COORDINATE + 1, FAR_EAST, FAR_WEST]);
-    match random.below(17) {
+    match random.below(18) {
         0 => lent.n = no_node,
         1 => lent.m = no_arc,
         2 | 3 => {
@@ -198,14 +218,21 @@ pub fn spoil(random: &mut Random, lent: &mut Lent, asked: &mut Asked) {
             }
         }
         11 => {
+            let boxes = lent.boxes.len() / 4;
+            if boxes > 0 {
+                let at = 4 * random.below(boxes);
+                fill(&mut lent.boxes[at..], random.pick(&NEAR_MARKS));
+            }
+        }
+        12 => {
             for _ in 0..random.between(1, 2) {
                 put(random, &mut lent.closed, no_closure);
             }
         }
-        12 => asked.s = no_node,
-        13 => asked.t = no_node,
-        14 => asked.arc = no_arc,
-        15 => asked.weight = no_weight,
+        13 => asked.s = no_node,
+        14 => asked.t = no_node,
+        15 => asked.arc = no_arc,
+        16 => asked.weight = no_weight,
         _ => asked.byte = no_closure,
     }
 }

@@ -10,6 +10,7 @@ use crate::drivers;
 use crate::files::{listing, rows_for_reading};
 use crate::hall;
 use crate::lent::Lent;
+use crate::marks;
 use crate::network::{labels, lengths, open, Arc};
 use crate::plans::{add_surplus, ask, change_boxes, plan, some_bytes};
 use crate::random::Random;
@@ -51,12 +52,14 @@ pub fn run() -> bool {
     columns::told_by_hand(&mut tally);
     columns::all_short_lines(&mut tally);
     drivers::greatest_excess(&mut tally);
+    marks::all_small_boxes(&mut tally);
     let mut random = Random::new(1);
     for _ in 0..4_000 {
         claims(&mut tally, &mut random);
         closures::claims(&mut tally, &mut random);
         columns::claims(&mut tally, &mut random);
         drivers::claims(&mut tally, &mut random);
+        marks::claims(&mut tally, &mut random);
     }
     coverage(&mut tally);
     println!("{} passed, {} failed", tally.passed, tally.failed);
@@ -100,6 +103,10 @@ fn hall_plan(tally: &mut Tally) {
     let s = all_s(4, &arcs(&lent));
     tally.expect(s[0] == [2, 3, 4], "S(1)");
     tally.expect(s[4].is_empty(), "S(5)");
+    tally.expect(
+        build(&mut lent).is_ok() && lent.boxes[16..20] == [1, 0, 1, 0],
+        "S(5) has the mark for its box",
+    );
     lent.boxes = [-1_000_000, 1_000_000].repeat(12);
     tally.expect(check(&lent).is_ok(), "every box at the full limits");
 }
@@ -260,13 +267,12 @@ fn longest_texts(tally: &mut Tally) {
     tally.expect(36_878 <= TEXT_BYTES, "and is never too long for a reader");
 }
 
-/// Every side of a tight box touches the head or a node of S(e).
+/// Every side of a tight box touches a node of S(e), if there is one.
 fn tight_is_smallest(lent: &Lent) -> bool {
-    let arcs = arcs(lent);
-    arcs.iter().zip(all_s(lent.n as usize, &arcs)).zip(lent.boxes.chunks(4)).all(|((arc, mut s), sides)| {
-        s.push(arc.head);
+    all_s(lent.n as usize, &arcs(lent)).iter().zip(lent.boxes.chunks(4)).all(|(s, sides)| {
         let touched = |row: &[i64], side: i64| s.iter().any(|node| row[node - 1] == side);
-        [&lent.x, &lent.x, &lent.y, &lent.y].iter().zip(sides).all(|(row, side)| touched(row, *side))
+        let axes = [&lent.x, &lent.x, &lent.y, &lent.y];
+        s.is_empty() || axes.iter().zip(sides).all(|(row, side)| touched(row, *side))
     })
 }
 
@@ -322,6 +328,22 @@ fn on_closures(case: &Case, call: &str) -> bool {
     false
 }
 
+/// Whether a case makes the call where the box of an arc is the mark.
+fn on_marks(case: &Case, call: &str) -> bool {
+    let mut marked = false;
+    for words in case.lines.iter().map(|line| fields(line)) {
+        match words[..] {
+            [b"fresh"] => marked = false,
+            [b"lend", b"boxes", ref sides @ ..] => {
+                marked = sides.chunks(4).any(|sides| sides == [b"1", b"0", b"1", b"0"])
+            }
+            [word, ..] if marked && word == call.as_bytes() => return true,
+            _ => (),
+        }
+    }
+    false
+}
+
 /// How the replies to `why` begin.
 #[rustfmt::skip]
 const WHY_REPLIES: [&str; 11] = [
@@ -338,6 +360,10 @@ fn coverage(tally: &mut Tally) {
         // One in ten of these, and so 2,000 of those that are compared.
         let made = small.iter().filter(|case| on_closures(case, call)).count();
         tally.expect(10 * made >= small.len(), format!("{call} where a track is closed in {made} cases"));
+    }
+    for call in ["boxed", "check", "update"] {
+        let made = small.iter().filter(|case| on_marks(case, call)).count();
+        tally.expect(10 * made >= small.len(), format!("{call} where a box is the mark in {made} cases"));
     }
     for (faulty, of) in [(1, 10), (2, 40)] {
         let made = small.iter().filter(|case| columns::faulty_lines(case) >= faulty).count();

@@ -6,7 +6,7 @@ pub fn exchanges(talk: &str) -> Vec<(&str, &str)> {
     said.map(|line| line.split_once(" => ").unwrap_or((line, "ok"))).collect()
 }
 
-pub const TALKS: [&str; 6] = [WORKED, SMALL, AROUND_ZERO, WRITTEN, CLOSED, WHY];
+pub const TALKS: [&str; 7] = [WORKED, SMALL, AROUND_ZERO, WRITTEN, CLOSED, WHY, MARKS];
 
 /// 'A hall plan worked through', lent by hand into rows of just the places needed.
 const WORKED: &str = "\
@@ -22,7 +22,7 @@ lend boxes 7 7 7 7 7 7 7 7 7 7 7 7 7 7 7 7 7 7 7 7 7 7 7 7
 lend route 0 0 0 0
 lend closed 0 0 0 0 0 0
 build
-show boxes => boxes -5 10 0 20 -5 10 0 20 -5 10 5 20 -5 10 0 20 -5 -5 20 20 0 10 0 5
+show boxes => boxes -5 10 0 20 -5 10 0 20 -5 10 5 20 -5 10 0 20 1 0 1 0 0 10 0 5
 -- Places after the route keep their contents.
 search 1 4 => ok 6 2 4 3 4
 show route => route 3 4 0 0
@@ -316,9 +316,9 @@ search 1 4 => ok 6 3 4 1 2 4
 boxed 1 4 => ok 6 3 4 1 2 4
 search 1 3 => ok 5 2 3 1 2
 check
--- A closed arc's tight box is its head alone.
+-- A closed arc's tight box is the mark.
 build
-show boxes 24 => boxes -5 10 0 20 -5 10 0 20 10 10 5 5 -5 10 0 20 -5 -5 20 20 0 10 0 5
+show boxes 24 => boxes -5 10 0 20 -5 10 0 20 1 0 1 0 -5 10 0 20 1 0 1 0 0 10 0 5
 -- With arcs 1, 3 and 5 closed no way leads from 1.
 lend closed 1 0 1 0 1 0
 search 1 4 => refused 12 1 (no walk leads from the source to the target, settled 1)
@@ -331,7 +331,7 @@ build
 update 3 5 1
 show weights 6 => weights 3 2 5 1 9 4
 show closed => closed 0 0 1 0 0 0 9
-show boxes 24 => boxes -5 10 0 20 -5 10 0 20 -5 10 5 20 -5 10 0 20 -5 -5 20 20 0 10 0 5
+show boxes 24 => boxes -5 10 0 20 -5 10 0 20 -5 10 5 20 -5 10 0 20 1 0 1 0 0 10 0 5
 check
 search 1 4 => ok 6 3 4 1 2 4
 boxed 1 4 => ok 6 3 4 1 2 4
@@ -349,7 +349,7 @@ boxed 1 3 => refused 12 1 (no walk leads from the source to the target, settled 
 search 1 3 => ok 5 2 3 1 2
 lend closed 0 0 0 0 0 0
 update 3 4 1
-show boxes 24 => boxes -5 10 0 20 -5 10 0 20 -5 10 5 20 -5 10 0 20 -5 -5 20 20 0 10 0 5
+show boxes 24 => boxes -5 10 0 20 -5 10 0 20 -5 10 5 20 -5 10 0 20 1 0 1 0 0 10 0 5
 check
 boxed 1 3 => ok 5 2 3 1 2
 -- Reading gives all open; where it is refused, for a row too short or for the text, nothing changes.
@@ -425,7 +425,11 @@ show boxes => boxes 0 0 0 0 0 0 0 0
 update 1 1000000 1
 show weights => weights 1000000 1
 show closed => closed 1 1
-show boxes => boxes 0 10 0 0 0 10 0 0
+show boxes => boxes 0 0 0 0 0 0 0 0
+update 1 1000000 0
+show boxes => boxes 0 10 0 0 0 0 0 0
+update 1 1000000 1
+show boxes => boxes 0 10 0 0 0 0 0 0
 -- Every call on a network is lent a byte for each arc; the writers are lent none.
 lend closed 1
 search 1 2 => refused 2 (a lent row is too short)
@@ -614,4 +618,118 @@ why 1 -2 1 => ? a number is misspelt
 why 1 2 4294967296 => ? a number is too small or too large for its place
 why 4294967296 x 1 => ? a number is too small or too large for its place
 why x 2 4294967296 => ? a number is misspelt
+";
+
+/// Tracks that lead nowhere, by request f: the mark built, held by, checked, updated, and what is nearly it.
+const MARKS: &str = "\
+fresh
+-- Arc 5 of the hall plan is never on a shortest route. Any well-shaped box of it passes: the mark, its head, the limits.
+gr hall.gr => ok 4 6
+co hall.co
+build
+show boxes 28 => boxes -5 10 0 20 -5 10 0 20 -5 10 5 20 -5 10 0 20 1 0 1 0 0 10 0 5 0 0 0 0
+check
+lend boxes -5 10 0 20 -5 10 0 20 -5 10 5 20 -5 10 0 20 -5 -5 20 20 0 10 0 5
+check
+lend boxes -5 10 0 20 -5 10 0 20 -5 10 5 20 -5 10 0 20 -1000000 1000000 -1000000 1000000 0 10 0 5
+check
+lend boxes -5 10 0 20 -5 10 0 20 1 0 1 0 -5 10 0 20 1 0 1 0 0 10 0 5
+check => refused 13 3 3 (the box of arc 3 misses node 3)
+boxed 1 3 => ok 5 2 3 1 2
+lend boxes 1 0 1 0 1 0 1 0 1 0 1 0 1 0 1 0 1 0 1 0 1 0 1 0
+check => refused 13 1 2 (the box of arc 1 misses node 2)
+boxed 1 4 => refused 12 1 (no walk leads from the source to the target, settled 1)
+boxed 4 4 => ok 0 0 1
+-- The mark holds no place: not 0, not 1, not those between or beyond, not those at the limits.
+n 10
+m 9
+lend tails 1 1 1 1 1 1 1 1 1
+lend heads 2 3 4 5 6 7 8 9 10
+lend weights 1 1 1 1 1 1 1 1 1
+lend x 0 0 1 0 1 2 -1 5 1000000 -1000000
+lend y 0 0 0 1 1 2 -1 -5 1000000 -1000000
+lend closed 0 0 0 0 0 0 0 0 0
+lend boxes 1 0 1 0 1 0 1 0 1 0 1 0 1 0 1 0 1 0 1 0 1 0 1 0 1 0 1 0 1 0 1 0 1 0 1 0
+boxed 1 2 => refused 12 1 (no walk leads from the source to the target, settled 1)
+boxed 1 3 => refused 12 1 (no walk leads from the source to the target, settled 1)
+boxed 1 4 => refused 12 1 (no walk leads from the source to the target, settled 1)
+boxed 1 5 => refused 12 1 (no walk leads from the source to the target, settled 1)
+boxed 1 6 => refused 12 1 (no walk leads from the source to the target, settled 1)
+boxed 1 7 => refused 12 1 (no walk leads from the source to the target, settled 1)
+boxed 1 8 => refused 12 1 (no walk leads from the source to the target, settled 1)
+boxed 1 9 => refused 12 1 (no walk leads from the source to the target, settled 1)
+boxed 1 10 => refused 12 1 (no walk leads from the source to the target, settled 1)
+build
+show boxes => boxes 0 0 0 0 1 1 0 0 0 0 1 1 1 1 1 1 2 2 2 2 -1 -1 -1 -1 5 5 -5 -5 1000000 1000000 1000000 1000000 -1000000 -1000000 -1000000 -1000000
+-- Loops: one of weight 1 leads nowhere, one of weight 0 leads to its own end.
+n 1
+m 2
+lend tails 1 1
+lend heads 1 1
+lend weights 1 0
+build
+show boxes 8 => boxes 1 0 1 0 0 0 0 0
+-- Marks updated, arcs 1-2, 2-3 and 1-3. A mark takes the tight box; it stays where that is a mark too.
+n 3
+m 3
+lend tails 1 2 1
+lend heads 2 3 3
+lend weights 1 1 5
+lend x 0 10 10
+lend y 0 0 10
+lend closed 0 0 0
+lend boxes 1 0 1 0 1 0 1 0 1 0 1 0 1 0 1 0
+update 1 1 0
+show boxes => boxes 10 10 0 10 10 10 10 10 1 0 1 0 1 0 1 0
+check
+-- Arc 3 given a time that ties: its mark takes the box of 3. Then closed: a box only grows, so this one stays.
+update 3 2 0
+show boxes 12 => boxes 10 10 0 10 10 10 10 10 10 10 10 10
+update 3 2 1
+show boxes 12 => boxes 10 10 0 10 10 10 10 10 10 10 10 10
+build
+show boxes 12 => boxes 10 10 0 10 10 10 10 10 1 0 1 0
+update 3 2 1
+show boxes 12 => boxes 10 10 0 10 10 10 10 10 1 0 1 0
+-- Places west and south: no side of the mark is kept.
+lend x -10 -20 -30
+lend y -10 -20 -30
+lend boxes 1 0 1 0 1 0 1 0 1 0 1 0
+update 3 0 0
+show boxes => boxes -20 -20 -20 -20 -30 -30 -30 -30 -30 -30 -30 -30
+lend boxes -20 -20 -20 -20 -30 -30 -30 -30 1 0 1 0
+check => refused 13 3 3 (the box of arc 3 misses node 3)
+boxed 1 3 => refused 12 1 (no walk leads from the source to the target, settled 1)
+search 1 3 => ok 0 1 2 3
+-- All closed: all marks, and check says yes.
+lend closed 1 1 1
+build
+show boxes => boxes 1 0 1 0 1 0 1 0 1 0 1 0
+check
+update 1 1 0
+show boxes => boxes -20 -20 -20 -20 1 0 1 0 1 0 1 0
+-- Every other box with reversed sides is 10, the lowest such arc being told.
+lend boxes 1 0 1 1 1 0 0 0 0 0 1 0
+check => refused 10 1 (the box of arc 1 is not well shaped)
+update 1 1 0 => refused 10 1 (the box of arc 1 is not well shaped)
+boxed 1 1 => refused 10 1 (the box of arc 1 is not well shaped)
+lend boxes 1 0 1 0 1 0 0 0 0 0 1 0
+check => refused 10 2 (the box of arc 2 is not well shaped)
+lend boxes 1 0 1 0 1 0 1 0 0 0 1 0
+check => refused 10 3 (the box of arc 3 is not well shaped)
+lend boxes 1 0 1 0 1 0 1 0 1 0 2 1
+boxed 1 1 => refused 10 3 (the box of arc 3 is not well shaped)
+lend boxes 1 0 1 0 1 0 1 0 -1 -2 -1 -2
+boxed 1 1 => refused 10 3 (the box of arc 3 is not well shaped)
+lend boxes 1 0 1 0 1 0 1 0 2 1 2 1
+boxed 1 1 => refused 10 3 (the box of arc 3 is not well shaped)
+lend boxes 1 0 1 0 1 0 1 0 0 1 1 0
+boxed 1 1 => refused 10 3 (the box of arc 3 is not well shaped)
+lend boxes 1 0 1 0 1 0 1 0 1 0 0 1
+boxed 1 1 => refused 10 3 (the box of arc 3 is not well shaped)
+lend boxes 1 0 1 0 1 0 1 0 1 0 1 -1
+boxed 1 1 => refused 10 3 (the box of arc 3 is not well shaped)
+lend boxes 0 1 0 1 1 0 1 0 1 0 1 0
+boxed 1 1 => ok 0 0 1
+show boxes => boxes 0 1 0 1 1 0 1 0 1 0 1 0
 ";

@@ -62,15 +62,14 @@ pub fn set(n: usize, arcs: &[Arc], e: &Arc) -> Vec<usize> {
     (1..=n).filter(in_set).collect()
 }
 
-/// The smallest box that holds the head of e and all of its S(e).
+/// The smallest box that holds these places, if there are any.
+pub fn around(held: &[Place]) -> Option<Rectangle> {
+    let (x, y) = (held.iter().map(|place| place.0), held.iter().map(|place| place.1));
+    Some(Rectangle { left: x.clone().min()?, right: x.max()?, low: y.clone().min()?, high: y.max()? })
+}
+
+/// The smallest box that holds all of S(e), or the mark.
 pub fn tight(n: usize, arcs: &[Arc], places: &[Place], e: &Arc) -> Rectangle {
-    let held: Vec<Place> = set(n, arcs, e).into_iter().chain([e.head]).map(|node| places[node]).collect();
-    let least = |side: fn(&Place) -> i64| held.iter().map(side).min().expect("the head is held");
-    let most = |side: fn(&Place) -> i64| held.iter().map(side).max().expect("the head is held");
-    Rectangle {
-        left: least(|place| place.0),
-        right: most(|place| place.0),
-        low: least(|place| place.1),
-        high: most(|place| place.1),
-    }
+    let held: Vec<Place> = set(n, arcs, e).into_iter().map(|node| places[node]).collect();
+    around(&held).unwrap_or(Rectangle { left: 1, right: 0, low: 1, high: 0 })
 }

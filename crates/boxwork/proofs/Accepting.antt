@@ -1,5 +1,5 @@
 -- Calls that are accepted: what their replies tell, and that the boxes they leave are judged fine and hold their S(e).
-use Prim.Native.Nat.{ℕ, _≤_}
+use Prim.Native.Nat.{ℕ}
 use mathlib.Core.Path.{_≡_, refl, sym, ap}
 use mathlib.Core.List.{List, []}
 use lib.IntN.{ℤ}
@@ -10,16 +10,14 @@ use Rattle.rules.specs.declared.Judged.the-variants.{Fine}
 use Rattle.rules.specs.declared.Refusal.{Refusal}
 use Rattle.rules.specs.declared.Refusal.the-variants.{BoxMisses}
 use Rattle.walks.specs.Walk.{Net}
-use Rattle.walks.specs.Rows.{Rows, laid, network}
-use Rattle.walks.specs.Through.{InS, Consistent}
-use Rattle.geometry.specs.Box.{Within}
-use Rattle.geometry.specs.Row.{coordinate, Shaped}
+use Rattle.walks.specs.Rows.{Rows, network}
+use Rattle.walks.specs.Through.{Consistent}
 use Rattle.drawing.specs.Drawn.{Drawn, boxRow}
 use Rattle.boxwork.specs.Tight.{Tight, Updated, HoldsNode}
 use Rattle.boxwork.specs.Says.{Builds, Checks, Updates, CheckSays}
 use Rattle.judging.proofs.StageLaws.{BoxesLent as Lent, lent-after}
 use Rattle.judging.proofs.FineLaws.{shaped-judged}
-use Rattle.boxwork.proofs.TightLaws.{inS-range, tight-holds, tight-shaped, updated-holds, updated-shaped}
+use Rattle.boxwork.proofs.TightLaws.{inS-range, around-holds, updated-holds}
 
 -- ---- A refusal is not an accepting reply
 
@@ -45,21 +43,14 @@ module _ {judged : Judged} {N : Net} {x y boxes : List ℤ} where
 -- ---- What is left by a build, and by an update
 
 module _ {n m : ℕ} {R : Rows} {x y boxes : List ℤ} (l : Lent n m R x y boxes) where
-  head-within : (e : ℕ) → 1 ≤ e → e ≤ m → Within (coordinate x (network m R .head e)) × Within (coordinate y (network m R .head e))
-  unfolding laid network
-  head-within e low high = let a = l .sound .arcs e low high in l .places _ (a .head-low) (a .head-high)
-
-  nodes-within : (e t : ℕ) → InS (network m R) e t → Within (coordinate x t) × Within (coordinate y t)
-  nodes-within e t i = let r = inS-range (l .sound) i in l .places t (r .2) (r .3)
-
   pub tight-accepted : {after : List ℤ} → Drawn boxRow m (λ e old new. Tight (network m R) x y e new) boxes after → CheckSays n m R x y after (accepted [])
   tight-accepted {after} d =
       Checks.consistent
-      (shaped-judged n m R x y after (lent-after (d .long) l) (λ e low high. tight-shaped (head-within e low high) (nodes-within e) (d .entries e low high)))
-      (record { keeps = λ e t i. let r = inS-range (l .sound) i in tight-holds (d .entries e (r .0) (r .1)) i })
+      (shaped-judged n m R x y after (lent-after (d .long) l) (λ e low high. d .entries e low high .shaped))
+      (record { keeps = λ e t i. let r = inS-range (l .sound) i in around-holds (d .entries e (r .0) (r .1)) i })
 
-  pub updated-accepted : {after : List ℤ} → Shaped m boxes → Drawn boxRow m (Updated (network m R) x y) boxes after → CheckSays n m R x y after (accepted [])
-  updated-accepted {after} shaped d =
+  pub updated-accepted : {after : List ℤ} → Drawn boxRow m (Updated (network m R) x y) boxes after → CheckSays n m R x y after (accepted [])
+  updated-accepted {after} d =
       Checks.consistent
-      (shaped-judged n m R x y after (lent-after (d .long) l) (λ e low high. updated-shaped (head-within e low high) (nodes-within e) (shaped .each e low high) (d .entries e low high)))
+      (shaped-judged n m R x y after (lent-after (d .long) l) (λ e low high. d .entries e low high .shaped))
       (record { keeps = λ e t i. let r = inS-range (l .sound) i in updated-holds (d .entries e (r .0) (r .1)) i })

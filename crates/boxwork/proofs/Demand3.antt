@@ -43,4 +43,4 @@ module _ (n m : ℕ) (R : Rows) (x y boxes : List ℤ) where
       let f = update-fine n m R x y _ _ _ _ (h .0) in
       let k = check-fine n m R x y _ (f .0) in
       let l = build-fine n m R x y _ (k .0) in
-      rw (h .1) (updated-accepted (lent-changed (l .sound) _ _ _ (f .1) (f .2) (f .3) (f .4) l) (k .1) (h .2))
+      rw (h .1) (updated-accepted (lent-changed (l .sound) _ _ _ (f .1) (f .2) (f .3) (f .4) l) (h .2))

@@ -6,5 +6,6 @@ pub mod Agreeing
 pub mod Accepting
 pub mod Demand3
 pub mod Closing
+pub mod Nowhere
 pub mod AllOpen
 pub mod Surplus

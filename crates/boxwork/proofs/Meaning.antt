@@ -1,6 +1,6 @@
 -- What the loops of `drawing` leave is what the statements say: tight and updated boxes, and the first missed node.
 use Prim.Native.Nat.{ℕ, _≤_}
-use mathlib.Core.Path.{_≡_, sym, ap, _∙_}
+use mathlib.Core.Path.{_≡_, refl, sym, ap, _∙_}
 use mathlib.Core.Logic.{_⊎_, inl, inr, ⊎-elim}
 use mathlib.Core.Bool.{Bool, true, false, not, false≢true}
 use mathlib.Core.List.{List, []}
@@ -10,38 +10,29 @@ use borrow.Author.Tests.{not-true}
 use lib.IntN.{ℤ}
 use Rattle.rules.specs.Paper.{accepted}
 use Rattle.rules.specs.declared.Judged.the-variants.{Fine}
-use Rattle.walks.specs.Rows.{Rows, Sound, at, laid, network}
+use Rattle.walks.specs.Rows.{Rows, Sound, network}
 use Rattle.walks.specs.Through.{InS, Consistent}
 use Rattle.walks.specs.Checking.{Misses, FirstMissed}
 use Rattle.settling.proofs.Choice.{either}
 use Rattle.rules.proofs.AndLaws.{and-true, and-yes}
 use Rattle.settling.proofs.LengthsAndS.{test-inS, inS-test}
-use Rattle.geometry.specs.Box.{Box, Holds, Upright, Smallest, holdsB}
-use Rattle.geometry.specs.Hull.{grown}
-use Rattle.geometry.specs.Row.{coordinate, boxOf}
+use Rattle.geometry.specs.Box.{Box, Holds, mark, WellShaped, nothing, Smallest, holdsB}
+use Rattle.geometry.specs.Row.{coordinate, boxOf, Shaped}
 use Rattle.geometry.proofs.Tests.{holds-yes, yes-holds}
-use Rattle.geometry.proofs.SmallestLaws.{smallest-same, smallest-self, place-upright, place-smallest, grown-smallest, grown-upright}
+use Rattle.geometry.proofs.SmallestLaws.{smallest-same, smallest-self}
+use Rattle.geometry.proofs.MarkLaws.{none-smallest}
 use Rattle.drawing.specs.Leads.{leadsAt, lengthsTo, leadsTo}
 use Rattle.drawing.specs.Drawn.{Drawn, boxRow}
-use Rattle.drawing.specs.Heads.{Nodes, headBox, FromHead}
-use Rattle.drawing.specs.Grown.{grownBy, GrownAll}
+use Rattle.drawing.specs.Grown.{grownBy, Emptied, GrownAll}
 use Rattle.drawing.specs.Missed.{missesNode, Lowest}
-use Rattle.drawing.proofs.GrownLaws.{Led, grown-by}
+use Rattle.drawing.proofs.GrownLaws.{Led, PlacesIn, grown-by}
 use Rattle.drawing.proofs.DrawnLaws.{drawn-then}
 use Rattle.judging.specs.Order.{updateJudged}
 use Rattle.boxwork.specs.Says.{Updates, UpdateSays, changed}
 use Rattle.judging.proofs.FineLaws.{build-fine, check-fine, update-fine}
 use Rattle.boxwork.proofs.ChangedLaws.{sound-changed}
 use Rattle.boxwork.proofs.TightLaws.{inS-range}
-use Rattle.boxwork.specs.Tight.{PlaceOfS, Tight, Updated, HoldsNode}
-
--- the heads of sound rows are nodes
-pub heads-nodes : {n m k j : ℕ} {R : Rows} → Sound n m R → n ≤ k → j ≤ m → Nodes k j (R .heads)
-heads-nodes s h l = record {
-  long = omega (arith, s .heads-long);
-  low = λ e low high. s .arcs e low (omega arith) .head-low;
-  high = λ e low high. let a = s .arcs e low (omega arith) in omega (arith, a .head-high);
-}
+use Rattle.boxwork.specs.Tight.{PlaceIn, Tight, Updated, HoldsNode}
 
 -- what holds the places T and encloses t, their smallest box, is the same
 with-smallest : {P T : ℤ → ℤ → Type 0} {t b : Box} → Smallest T t → Smallest (λ px py. P px py ⊎ T px py) b → Smallest (λ px py. P px py ⊎ Holds t px py) b
@@ -63,43 +54,46 @@ module _ {n m : ℕ} {R : Rows} (sound : Sound n m R) where
 
   -- ---- Boxes
 
-  module _ (x y : List ℤ) (e : ℕ) (low : 1 ≤ e) (high : e ≤ m) where
-    led-place : {px py : ℤ} → Led (λ t. leadsTo R n m t e) x y n px py → PlaceOfS (network m R) x y e px py
-    led-place h = record { node = h .node; member = leads-inS (h .node) e (h .low) (h .high) low high (h .leading); place = h .place }
+  module _ (x y : List ℤ) (places : PlacesIn x y n) where
+    module _ (e : ℕ) (low : 1 ≤ e) (high : e ≤ m) where
+      led-place : {px py : ℤ} → Led (λ t. leadsTo R n m t e) x y n px py → PlaceIn x y (InS (network m R) e) px py
+      led-place h = record { node = h .node; member = leads-inS (h .node) e (h .low) (h .high) low high (h .leading); place = h .place }
 
-    place-led : {px py : ℤ} → PlaceOfS (network m R) x y e px py → Led (λ t. leadsTo R n m t e) x y n px py
-    place-led s =
-        let r = inS-range sound (s .member) in
-        record { node = s .node; low = r .2; high = r .3; leading = inS-leads (s .node) e (r .2) (r .3) low high (s .member); place = s .place }
+      place-led : {px py : ℤ} → PlaceIn x y (InS (network m R) e) px py → Led (λ t. leadsTo R n m t e) x y n px py
+      place-led s =
+          let r = inS-range sound (s .member) in
+          record { node = s .node; low = r .2; high = r .3; leading = inS-leads (s .node) e (r .2) (r .3) low high (s .member); place = s .place }
 
-    -- a box grown by the nodes of S(e)
-    led-same : {P : ℤ → ℤ → Type 0} {b : Box} → Smallest (λ px py. P px py ⊎ Led (λ t. leadsTo R n m t e) x y n px py) b → Smallest (λ px py. P px py ⊎ PlaceOfS (network m R) x y e px py) b
-    led-same s = smallest-same (λ px py. ⊎-elim inl (λ h. inr (led-place h))) (λ px py. ⊎-elim inl (λ h. inr (place-led h))) s
+      -- the mark grown by the nodes of S(e), and an old box grown by them
+      pub tight-made : Tight (network m R) x y e (grownBy (λ t. leadsTo R n m t e) x y n mark)
+      tight-made =
+          let made = grown-by (λ t. leadsTo R n m t e) x y (nothing refl) (none-smallest {P = λ px py. ⊥} (λ px py h. h)) n places in
+          record { smallest = smallest-same (λ px py. ⊎-elim (λ h. absurd h) led-place) (λ px py s. inr (place-led s)) (made .1); shaped = made .0 }
 
-    pub tight-made : Tight (network m R) x y e (grownBy (λ t. leadsTo R n m t e) x y n (headBox (R .heads) x y e))
-    unfolding laid network
-    tight-made = record { smallest = led-same (grown-by _ x y (place-upright _ _) (place-smallest _ _) n .1) }
+      pub updated-made : {old : Box} → WellShaped old → Updated (network m R) x y e old (grownBy (λ t. leadsTo R n m t e) x y n old)
+      updated-made {old} shaped =
+          let made = grown-by (λ t. leadsTo R n m t e) x y shaped (smallest-self old) n places in
+          record {
+            tight = _;
+            is-tight = tight-made;
+            smallest = with-smallest (tight-made .smallest) (smallest-same
+                (λ px py. ⊎-elim inl (λ h. inr (led-place h)))
+                (λ px py. ⊎-elim inl (λ h. inr (place-led h)))
+                (made .1));
+            shaped = made .0;
+          }
 
-    pub updated-made : {old : Box} → Upright old
-        → Updated (network m R) x y e old (grownBy (λ t. leadsTo R n m t e) x y n (grown old (coordinate x (at (R .heads) e)) (coordinate y (at (R .heads) e))))
-    unfolding laid network
-    updated-made {old} upright =
-        let made = grown-by (λ t. leadsTo R n m t e) x y (grown-upright _ _ upright) (grown-smallest _ _ upright (smallest-self old)) n .1 in
-        record {
-          tight = _;
-          is-tight = tight-made;
-          smallest = with-smallest (tight-made .smallest) (smallest-same
-              (λ px py. ⊎-elim (⊎-elim inl (λ h. inr (inl h))) (λ h. inr (inr h)))
-              (λ px py. ⊎-elim (λ h. inl (inl h)) (⊎-elim (λ h. inl (inr h)) inr))
-              (led-same made));
-        }
+    pub built-by : {before mid after : List ℤ} → Drawn boxRow m Emptied before mid → Drawn boxRow m (GrownAll (leadsTo R n m) x y n) mid after
+        → Drawn boxRow m (λ e old new. Tight (network m R) x y e new) before after
+    built-by = drawn-then {Is = Emptied} {Js = GrownAll (leadsTo R n m) x y n} (λ e low high p q i j. rw (j, i) (tight-made e low high))
 
-  module _ (x y : List ℤ) {before mid after : List ℤ} (grown-all : Drawn boxRow m (GrownAll (leadsTo R n m) x y n) mid after) where
-    pub built-by : Drawn boxRow m (FromHead true (R .heads) x y) before mid → Drawn boxRow m (λ e old new. Tight (network m R) x y e new) before after
-    built-by started = drawn-then {Is = FromHead true (R .heads) x y} {Js = GrownAll (leadsTo R n m) x y n} (λ e low high p q i j. rw (j, i) (tight-made x y e low high)) started grown-all
-
-    pub updated-by : ((e : ℕ) → 1 ≤ e → e ≤ m → Upright (boxOf before e)) → Drawn boxRow m (FromHead false (R .heads) x y) before mid → Drawn boxRow m (Updated (network m R) x y) before after
-    updated-by upright heads = drawn-then {Is = FromHead false (R .heads) x y} {Js = GrownAll (leadsTo R n m) x y n} (λ e low high p q i j. rw (j, i) (updated-made x y e low high (upright e low high))) heads grown-all
+    pub updated-by : {before after : List ℤ} → Shaped m before → Drawn boxRow m (GrownAll (leadsTo R n m) x y n) before after
+        → Drawn boxRow m (Updated (network m R) x y) before after
+    updated-by shaped grown = record {
+      entries = λ e low high. rw (grown .entries e low high) (updated-made e low high (shaped .each e low high));
+      rest = grown .rest;
+      long = grown .long;
+    }
 
   -- ---- The first missed node
 
@@ -139,12 +133,13 @@ module _ {n m : ℕ} {R : Rows} (sound : Sound n m R) where
     missed-none h = record { keeps = λ e t i. let r = inS-range sound i in missed-no t e (h t e (r .2) (r .3) (r .0) (r .1)) i }
 
 -- an update that was judged fine, wrote weight and closure, and grew the boxes
-pub updated-says : (n : ℕ) {m : ℕ} (R : Rows) {R′ : Rows} {x y before mid after : List ℤ} (arc weight closure : ℕ)
+pub updated-says : (n : ℕ) {m : ℕ} (R : Rows) {R′ : Rows} {x y before after : List ℤ} (arc weight closure : ℕ)
     → updateJudged n m R x y before arc weight closure ≡ Fine → R′ ≡ changed R arc weight closure
-    → Drawn boxRow m (FromHead false (R .heads) x y) before mid → Drawn boxRow m (GrownAll (leadsTo R′ n m) x y n) mid after
+    → Drawn boxRow m (GrownAll (leadsTo R′ n m) x y n) before after
     → UpdateSays n m R x y before arc weight closure (accepted []) R′ after
-updated-says n {m} R {x = x} {y = y} {before = before} arc weight closure fine wrote heads all =
+updated-says n {m} R {x = x} {y = y} {before = before} arc weight closure fine wrote all =
     let u = update-fine n m R x y before arc weight closure fine in
     let k = check-fine n m R x y before (u .0) in
-    let sound = sound-changed (build-fine n m R x y before (k .0) .sound) arc weight closure (u .1) (u .2) (u .3) in
-    rw wrote (Updates.updated fine (updated-by sound x y (rw wrote at all) (λ e low high. k .1 .each e low high .upright) heads))
+    let l = build-fine n m R x y before (k .0) in
+    let sound = sound-changed (l .sound) arc weight closure (u .1) (u .2) (u .3) in
+    rw wrote (Updates.updated fine (updated-by sound x y (l .places) (k .1) (rw wrote at all)))

@@ -10,7 +10,7 @@ use Rattle.walks.specs.Walk.{Net}
 use Rattle.walks.specs.Rows.{Rows}
 use Rattle.walks.proofs.CheckingLaws.{missed-arc, missed-node, consistent-misses}
 use Rattle.drawing.proofs.DrawnLaws.{puts-box, drawn-unique}
-use Rattle.boxwork.proofs.TightLaws.{tight-unique, updated-unique}
+use Rattle.boxwork.proofs.TightLaws.{around-unique, updated-unique}
 use Rattle.boxwork.specs.Says.{Builds, Checks, Updates}
 
 module _ {judged : Judged} {N : Net} {x y boxes : List ℤ} where
@@ -19,7 +19,7 @@ module _ {judged : Judged} {N : Net} {x y boxes : List ℤ} where
   build-unique (Builds.refused {r = r} e) (Builds.refused {r = r′} e′) = let same : r ≡ r′ = cc in (rw same, refl)
   build-unique (Builds.refused e) (Builds.built f d) = let z : _≡_ {A = ℕ} 0 1 = cc in absurd (omega arith)
   build-unique (Builds.built f d) (Builds.refused e) = let z : _≡_ {A = ℕ} 0 1 = cc in absurd (omega arith)
-  build-unique (Builds.built f d) (Builds.built f′ d′) = (refl, drawn-unique puts-box (λ e low high b c c′ p q. tight-unique p q) d d′)
+  build-unique (Builds.built f d) (Builds.built f′ d′) = (refl, drawn-unique puts-box (λ e low high b c c′ p q. around-unique p q) d d′)
 
   pub check-unique : {reply reply′ : Reply} → Checks judged N x y boxes reply → Checks judged N x y boxes reply′ → reply ≡ reply′
   check-unique (Checks.refused {r = r} e) (Checks.refused {r = r′} e′) = let same : r ≡ r′ = cc in rw same

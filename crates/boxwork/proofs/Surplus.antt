@@ -2,26 +2,24 @@
 -- places beyond keep their contents.
 use Prim.Native.Nat.{ℕ, zero, suc, _+_, _-_, _*_, _<_, _≤_, min}
 use mathlib.Core.Path.{_≡_, refl, sym, ap, _∙_, subst}
-use mathlib.Core.Logic.{inl, inr, ⊎-elim}
 use mathlib.Core.List.{List, [], _∷_}
 use native.Mathlib.Omega.{arith}
 use lib.IntN.{ℤ, pos}
 use lib.ListN.{length, take, drop, length-take, length-drop}
 use lib.Seq.{getD-drop, ext-getD, take-set-lt, drop-set-lt}
 use Rattle.rules.specs.Paper.{Reply}
-use Rattle.walks.specs.Rows.{Rows, Sound, laid, network}
+use Rattle.walks.specs.Rows.{Rows, Sound, network}
 use Rattle.walks.specs.Through.{InS}
 use Rattle.walks.specs.Checking.{Misses}
 use Rattle.geometry.specs.Box.{Box}
 use Rattle.geometry.specs.Row.{number, boxOf}
-use Rattle.geometry.proofs.SmallestLaws.{smallest-same}
 use Rattle.search.proofs.Alike.{other-way, inS-alike}
 use Rattle.judging.specs.Cut.{cut}
-use Rattle.judging.proofs.CutLaws.{at-cut, place-cut, box-cut, build-judged-cut, check-judged-cut, update-judged-cut}
+use Rattle.judging.proofs.CutLaws.{place-cut, box-cut, build-judged-cut, check-judged-cut, update-judged-cut}
 use Rattle.search.proofs.Cut.{network-cut}
 use Rattle.drawing.specs.Drawn.{Drawn, boxRow}
 use Rattle.boxwork.specs.Tight.{PlaceOf, Tight, Updated, HoldsNode}
-use Rattle.boxwork.proofs.TightLaws.{inS-range}
+use Rattle.boxwork.proofs.TightLaws.{inS-range, around-same}
 use Rattle.judging.proofs.FineLaws.{build-fine, check-fine, update-fine}
 use Rattle.boxwork.proofs.ChangedLaws.{sound-changed}
 use Rattle.boxwork.specs.Says.{Builds, Checks, Updates, BuildSays, CheckSays, UpdateSays, changed}
@@ -67,33 +65,21 @@ module _ {n m : ℕ} {R : Rows} (sound : Sound n m R) (x y : List ℤ) where
   inS-back : {e t : ℕ} → InS (network m (cut m R)) e t → InS (network m R) e t
   inS-back i = inS-alike (other-way (network-cut m R)) i
 
-  module _ (e : ℕ) (low : 1 ≤ e) (high : e ≤ m) where
-    head-same : network m R .head e ≡ network m (cut m R) .head e
-    unfolding laid network
-    head-same = sym (at-cut m (R .heads) e low high)
-
-    head-low : 1 ≤ network m R .head e
-    unfolding laid network
-    head-low = sound .arcs e low high .head-low
-
-    head-high : network m R .head e ≤ n
-    unfolding laid network
-    head-high = sound .arcs e low high .head-high
-
+  module _ {e : ℕ} where
     pub tight-cut : {b : Box} → Tight (network m R) x y e b → Tight (network m (cut m R)) (take n x) (take n y) e b
-    tight-cut p = record {
-      smallest = smallest-same
-          (λ px py. ⊎-elim
-          (λ h. inl (subst (λ (v : ℕ). PlaceOf (take n x) (take n y) v px py) head-same (place-there _ head-low head-high h)))
-          (λ s. let r = inS-range sound (s .member) in inr (record { node = s .node; member = inS-alike (network-cut m R) (s .member); place = place-there (s .node) (r .2) (r .3) (s .place) })))
-          (λ px py. ⊎-elim
-          (λ h. inl (place-back _ head-low head-high (subst (λ (v : ℕ). PlaceOf (take n x) (take n y) v px py) (sym head-same) h)))
-          (λ s. let i = inS-back (s .member) in let r = inS-range sound i in inr (record { node = s .node; member = i; place = place-back (s .node) (r .2) (r .3) (s .place) })))
-          (p .smallest);
-    }
+    tight-cut p =
+        around-same
+        (λ px py s.
+        let r = inS-range sound (s .member) in
+        record { node = s .node; member = inS-alike (network-cut m R) (s .member); place = place-there (s .node) (r .2) (r .3) (s .place) })
+        (λ px py s.
+        let i = inS-back (s .member) in
+        let r = inS-range sound i in
+        record { node = s .node; member = i; place = place-back (s .node) (r .2) (r .3) (s .place) })
+        p
 
     pub updated-cut : {old new : Box} → Updated (network m R) x y e old new → Updated (network m (cut m R)) (take n x) (take n y) e old new
-    updated-cut p = record { tight = p .tight; is-tight = tight-cut (p .is-tight); smallest = p .smallest }
+    updated-cut p = record { tight = p .tight; is-tight = tight-cut (p .is-tight); smallest = p .smallest; shaped = p .shaped }
 
   module _ (boxes : List ℤ) where
     holds-there : (e t : ℕ) → InS (network m R) e t → HoldsNode x y boxes e t → HoldsNode (take n x) (take n y) (take (4 * m) boxes) e t
@@ -123,7 +109,7 @@ module _ (n m : ℕ) (R : Rows) (x y boxes : List ℤ) where
   build-cut (Builds.refused e) = (Builds.refused (build-judged-cut n m R x y boxes ∙ e), refl)
   build-cut (Builds.built f d) =
       let l = build-fine n m R x y boxes f in
-      let r = drawn-cut {Is = λ e old new. Tight (network m R) x y e new} {Js = λ e old new. Tight (network m (cut m R)) (take n x) (take n y) e new} (λ e low high. tight-cut (l .sound) x y e low high) d in
+      let r = drawn-cut {Is = λ e old new. Tight (network m R) x y e new} {Js = λ e old new. Tight (network m (cut m R)) (take n x) (take n y) e new} (λ e low high. tight-cut (l .sound) x y) d in
       (Builds.built (build-judged-cut n m R x y boxes ∙ f) (r .0), r .1)
 
   pub check-cut : {reply : Reply} → CheckSays n m R x y boxes reply → CheckSays n m (cut m R) (take n x) (take n y) (take (4 * m) boxes) reply
@@ -152,7 +138,7 @@ module _ (n m : ℕ) (R : Rows) (x y boxes : List ℤ) where
       let below : arc - 1 < m = omega (arith, u .1, u .2) in
       let same : cut m S ≡ changed (cut m R) arc weight closure =
       rw (take-set-lt m (R .weights) (arc - 1) weight below, take-set-lt m (R .closures) (arc - 1) closure below) refl in
-      let r = drawn-cut {Is = Updated (network m S) x y} {Js = Updated (network m (cut m S)) (take n x) (take n y)} (λ e low high. updated-cut (sound-changed (l .sound) arc weight closure (u .1) (u .2) (u .3)) x y e low high) d in (
+      let r = drawn-cut {Is = Updated (network m S) x y} {Js = Updated (network m (cut m S)) (take n x) (take n y)} (λ e low high. updated-cut (sound-changed (l .sound) arc weight closure (u .1) (u .2) (u .3)) x y) d in (
         rw same (Updates.updated (update-judged-cut n m R x y boxes arc weight closure ∙ f) (rw same at (r .0))),
         record {
           tails = refl;

@@ -1,5 +1,5 @@
--- Request b, "nothing was lost": where every closure is 0, each call replies and writes what document 01 alone says of it. Each
--- statement is proved, under the name that stands with it, in proofs/AllOpen.antt.
+-- Request b, "nothing was lost": where every closure is 0, each call replies and writes what document 01 says of it, with the tight
+-- box as request f has it. Each statement is proved, under the name that stands with it, in proofs/AllOpen.antt.
 use Prim.Native.Nat.{ℕ, _-_, _≤_}
 use mathlib.Core.Path.{_≡_}
 use mathlib.Core.Logic.{_↔_}

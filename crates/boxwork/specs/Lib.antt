@@ -1,6 +1,7 @@
--- What build, check and update say, demand 3, and what closed tracks are.
+-- What build, check and update say, demand 3, what closed tracks are, and tracks that lead nowhere.
 pub mod Tight
 pub mod Says
 pub mod Demand3
 pub mod Closing
+pub mod Nowhere
 pub mod AllOpen

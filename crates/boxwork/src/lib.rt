@@ -9,7 +9,7 @@ use drawing::compare::Miss;
 use rules::Judged;
 use rules::Refusal;
 
-// Build writes the tight boxes: each is the smallest that holds its arc's head and all of its S(e).
+// Build writes the tight boxes: each is the smallest that holds its S(e), or the mark where S(e) is empty.
 pub fn build(
     n: u32,
     m: u32,
@@ -27,7 +27,7 @@ pub fn build(
     let Judged::Fine = j else {
         return j;
     };
-    drawing::heads::draw_heads(true, m as usize, heads, x, y, boxes);
+    drawing::grow::empty_all(m as usize, boxes);
     drawing::grow::grow_all(
         n as usize,
         m as usize,
@@ -123,7 +123,6 @@ pub fn update(
         return j;
     };
     set_arc(weights, closures, arc, weight, closure);
-    drawing::heads::draw_heads(false, m as usize, heads, x, y, boxes);
     drawing::grow::grow_all(
         n as usize,
         m as usize,

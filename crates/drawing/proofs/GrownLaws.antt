@@ -7,9 +7,10 @@ use mathlib.Core.List.{List}
 use native.Mathlib.Omega.{arith}
 use native.Mathlib.Decide.{ℕ-discrete}
 use lib.IntN.{ℤ}
-use Rattle.geometry.specs.Box.{Box, Upright, Smallest}
+use Rattle.geometry.specs.Box.{Box, Within, WellShaped, Smallest}
 use Rattle.geometry.specs.Row.{coordinate}
-use Rattle.geometry.proofs.SmallestLaws.{IsPlace, smallest-same, grown-smallest, grown-upright}
+use Rattle.geometry.proofs.SmallestLaws.{IsPlace, smallest-same}
+use Rattle.geometry.proofs.MarkLaws.{taken-shaped, taken-smallest}
 use Rattle.settling.proofs.Choice.{cond-by}
 use Rattle.drawing.specs.Grown.{grownIf, grownBy}
 
@@ -21,11 +22,15 @@ pub record Led (leads : ℕ → Bool) (x y : List ℤ) (n : ℕ) (px py : ℤ) :
   pub leading : leads node ≡ true
   pub place : IsPlace (coordinate x node) (coordinate y node) px py
 
--- b is upright and the smallest around P
+-- b is well shaped and the smallest around P
 abbrev Snug : (ℤ → ℤ → Type 0) → Box → Type 0
-Snug P b = Upright b × Smallest P b
+Snug P b = WellShaped b × Smallest P b
 
-module _ (leads : ℕ → Bool) (x y : List ℤ) {P : ℤ → ℤ → Type 0} {b : Box} (upright : Upright b) (smallest : Smallest P b) where
+-- the places of the nodes 1..n are within limits
+abbrev pub PlacesIn : List ℤ → List ℤ → ℕ → Type 0
+PlacesIn x y n = (t : ℕ) → 1 ≤ t → t ≤ n → Within (coordinate x t) × Within (coordinate y t)
+
+module _ (leads : ℕ → Bool) (x y : List ℤ) {P : ℤ → ℤ → Type 0} {b : Box} (shaped : WellShaped b) (smallest : Smallest P b) where
   -- with one node more
   longer : {t : ℕ} {px py : ℤ} → Led leads x y t px py → Led leads x y (suc t) px py
   longer h = record { node = h .node; low = h .low; high = omega (arith, h .high); leading = h .leading; place = h .place }
@@ -36,20 +41,21 @@ module _ (leads : ℕ → Bool) (x y : List ℤ) {P : ℤ → ℤ → Type 0} {b
     | no e ↦ inl (record { node = h .node; low = h .low; high = omega (arith, h .high); leading = h .leading; place = h .place })
   ]
 
-  pub grown-by : (n : ℕ) → Snug (λ px py. P px py ⊎ Led leads x y n px py) (grownBy leads x y n b)
+  pub grown-by : (n : ℕ) → PlacesIn x y n → Snug (λ px py. P px py ⊎ Led leads x y n px py) (grownBy leads x y n b)
   unfolding grownBy grownIf
-  grown-by zero = (upright, smallest-same (λ px py. inl) (λ px py. ⊎-elim (λ p. p) (λ h. absurd (omega (arith, h .low, h .high)))) smallest)
-  grown-by (suc t) =
-      let old = grown-by t in
+  grown-by zero places = (shaped, smallest-same (λ px py. inl) (λ px py. ⊎-elim (λ p. p) (λ h. absurd (omega (arith, h .low, h .high)))) smallest)
+  grown-by (suc t) places =
+      let old = grown-by t (λ i low high. places i low (omega arith)) in
+      let here = places (suc t) (omega arith) (omega arith) in
       let u = coordinate x (suc t) in
       let v = coordinate y (suc t) in
       cond-by (Snug (λ px py. P px py ⊎ Led leads x y (suc t) px py)) (leads (suc t)) _ _
       (λ yes. (
-        grown-upright u v (old .0),
+        taken-shaped u v (here .0) (here .1) (old .0),
         smallest-same
             (λ px py. ⊎-elim (⊎-elim inl (λ h. inr (longer h))) (λ h. inr (record { node = suc t; low = omega arith; high = omega arith; leading = yes; place = h })))
             (λ px py. ⊎-elim (λ p. inl (inl p)) (λ h. ⊎-elim (λ k. inl (inr k)) (λ k. inr (k .1)) (last t h)))
-            (grown-smallest u v (old .0) (old .1)),
+            (taken-smallest u v (old .0) (old .1)),
       ))
       (λ not. (
         old .0,

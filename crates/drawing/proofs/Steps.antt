@@ -10,7 +10,7 @@ use lib.IntN.{ℤ}
 use lib.ListN.{length, set, getD}
 use Rattle.walks.specs.Rows.{Rows, Sound}
 use Rattle.geometry.specs.Box.{Box}
-use Rattle.geometry.specs.Hull.{grown}
+use Rattle.geometry.specs.Hull.{taken}
 use Rattle.geometry.specs.Row.{number, boxOf, withBox}
 use Rattle.drawing.specs.Leads.{leadsB, leadsAt, leadsTo, Marked}
 use Rattle.drawing.specs.Drawn.{boxRow, markRow, markOf, Drawn}
@@ -41,11 +41,11 @@ mark-turn R lengths {e} {before} {now} {mark} drawn told room =
 
 -- its box grows, or stays
 module _ (leads : ℕ → Bool) (px py : ℤ) {e : ℕ} {before now after : List ℤ} (drawn : Drawn boxRow e (GrownOnce leads px py) before now) where
-  pub grow-turn : leads (e + 1) ≡ true → 4 * (e + 1) ≤ length before → after ≡ withBox now (e + 1) (grown (boxOf now (e + 1)) px py)
+  pub grow-turn : leads (e + 1) ≡ true → 4 * (e + 1) ≤ length before → after ≡ withBox now (e + 1) (taken (boxOf now (e + 1)) px py)
       → Drawn boxRow (e + 1) (GrownOnce leads px py) before after
   unfolding grownIf
   grow-turn leading room made =
-      rw made (drawn-next puts-box drawn _ room (ap (λ (b : Box). grown b px py) (drawn-old puts-box drawn) ∙ rw leading refl))
+      rw made (drawn-next puts-box drawn _ room (ap (λ (b : Box). taken b px py) (drawn-old puts-box drawn) ∙ rw leading refl))
 
   pub skip-turn : leads (e + 1) ≡ false → after ≡ now → Drawn boxRow (e + 1) (GrownOnce leads px py) before after
   unfolding grownIf

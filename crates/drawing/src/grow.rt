@@ -1,12 +1,24 @@
-// Boxes grown by the places of their S(e).
+// Boxes emptied, and grown by the places of their S(e).
 ghost use Prim.Native.Nat.{_*_, _≤_};
 ghost use lib.ListN.{length};
 ghost use Rattle.walks.specs.Rows.{rows, Sound};
 ghost use Rattle.drawing.specs.Leads.{leadsTo};
 ghost use Rattle.drawing.specs.Drawn.{Drawn, boxRow, markOf};
-ghost use Rattle.drawing.specs.Grown.{GrownOnce, GrownAll};
+ghost use Rattle.drawing.specs.Grown.{Emptied, GrownOnce, GrownAll};
 use crate::mark::mark_toward;
 use frontier::chain::link;
+
+// Each arc's box becomes the mark, which holds nothing.
+pub fn empty_all(m: usize, boxes: &mut [i32])
+    requires { ⌜ (m ≤ 2048) × (4 * m ≤ length (now boxes)) ⌝ }
+    ensures { λ _. ⌜ Drawn boxRow m Emptied (now (boxes .entry)) (now (boxes .exit)) ⌝ }
+{
+    let mut e: usize = 0;
+    while e < m {
+        geometry::empty_box(boxes, e + 1);
+        e += 1;
+    }
+}
 
 // Each marked arc's box grows by a place.
 fn grow_marked(marked: &[bool; 2048], px: i32, py: i32, m: usize, boxes: &mut [i32])

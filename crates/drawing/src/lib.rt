@@ -2,5 +2,4 @@
 // grown by t's place, or compared with it.
 pub mod compare;
 pub mod grow;
-pub mod heads;
 mod mark;

@@ -1,6 +1,7 @@
 pub mod Order
 pub mod Signed
-pub mod Tests
 pub mod SmallestLaws
+pub mod Tests
+pub mod MarkLaws
 pub mod RowLaws
 pub mod Wrapping

@@ -16,14 +16,14 @@ pub high-corner : {b : Box} → Upright b → Holds b (b .right) (b .high)
 high-corner {b} p = record { west = p .across; east = ≤ℤ-refl (b .right); south = p .upward; north = ≤ℤ-refl (b .high) }
 
 -- c's sides are outside b's
-pub record Around (c b : Box) : Type 0 where
+pub record Outside (c b : Box) : Type 0 where
   pub west : c .left ≤ℤ b .left
   pub east : b .right ≤ℤ c .right
   pub south : c .low ≤ℤ b .low
   pub north : b .high ≤ℤ c .high
 
-pub around-encloses : {c b : Box} → Around c b → Encloses c b
-around-encloses a x y h =
+pub outside-encloses : {c b : Box} → Outside c b → Encloses c b
+outside-encloses a x y h =
     record {
       west = ≤ℤ-trans (a .west) (h .west);
       east = ≤ℤ-trans (h .east) (a .east);
@@ -31,8 +31,8 @@ around-encloses a x y h =
       north = ≤ℤ-trans (h .north) (a .north);
     }
 
-pub encloses-around : {c b : Box} → Upright b → Encloses c b → Around c b
-encloses-around {c} {b} p e =
+pub encloses-outside : {c b : Box} → Upright b → Encloses c b → Outside c b
+encloses-outside {c} {b} p e =
     let l = e (b .left) (b .low) (low-corner p) in
     let h = e (b .right) (b .high) (high-corner p) in
     record { west = l .west; east = h .east; south = l .south; north = h .north }
@@ -46,15 +46,15 @@ same-box {b} {c} p q r s = made (b .left) (c .left) (b .right) (c .right) (b .lo
     made : (l l′ r r′ d d′ u u′ : ℤ) → l ≡ l′ → r ≡ r′ → d ≡ d′ → u ≡ u′ → make l r d u ≡ make l′ r′ d′ u′
     made l l′ r r′ d d′ u u′ e f g h = rw (e, f, g, h)
 
-pub around-antisymm : {b c : Box} → Around b c → Around c b → b ≡ c
-around-antisymm p q =
+pub outside-antisymm : {b c : Box} → Outside b c → Outside c b → b ≡ c
+outside-antisymm p q =
     same-box (≤ℤ-antisymm (p .west) (q .west)) (≤ℤ-antisymm (q .east) (p .east)) (≤ℤ-antisymm (p .south) (q .south)) (≤ℤ-antisymm (q .north) (p .north))
 
 -- ---- the smallest box
 
 pub smallest-unique : {P : ℤ → ℤ → Type 0} {b c : Box} → Upright b → Upright c → Smallest P b → Smallest P c → b ≡ c
 smallest-unique {P} {b} {c} pb pc sb sc =
-    around-antisymm (encloses-around pc (sc .least b (sb .holds))) (encloses-around pb (sb .least c (sc .holds)))
+    outside-antisymm (encloses-outside pc (sc .least b (sb .holds))) (encloses-outside pb (sb .least c (sc .holds)))
 
 -- it goes by the points alone
 pub smallest-same : {P Q : ℤ → ℤ → Type 0} {b : Box} → ((x y : ℤ) → P x y → Q x y) → ((x y : ℤ) → Q x y → P x y) → Smallest P b → Smallest Q b
@@ -75,7 +75,7 @@ pub place-smallest : (px py : ℤ) → Smallest (IsPlace px py) (placeBox px py)
 place-smallest px py =
     record {
       holds = λ x y e. moved e (low-corner (place-upright px py));
-      least = λ c h. around-encloses (let k = h px py (refl, refl) in record { west = k .west; east = k .east; south = k .south; north = k .north });
+      least = λ c h. outside-encloses (let k = h px py (refl, refl) in record { west = k .west; east = k .east; south = k .south; north = k .north });
     }
   where
     moved : {b : Box} {x y u v : ℤ} → (x ≡ u) × (y ≡ v) → Holds b u v → Holds b x y
@@ -85,17 +85,17 @@ place-smallest px py =
 pub hull-smallest : {P Q : ℤ → ℤ → Type 0} {b c : Box} → Upright b → Upright c → Smallest P b → Smallest Q c → Smallest (λ x y. P x y ⊎ Q x y) (hull b c)
 hull-smallest {P} {Q} {b} {c} pb pc sb sc =
     record {
-      holds = λ x y. ⊎-elim (λ p. around-encloses one x y (sb .holds x y p)) (λ q. around-encloses two x y (sc .holds x y q));
-      least = λ d h. around-encloses (both d (encloses-around pb (sb .least d (λ x y p. h x y (inl p)))) (encloses-around pc (sc .least d (λ x y q. h x y (inr q)))));
+      holds = λ x y. ⊎-elim (λ p. outside-encloses one x y (sb .holds x y p)) (λ q. outside-encloses two x y (sc .holds x y q));
+      least = λ d h. outside-encloses (both d (encloses-outside pb (sb .least d (λ x y p. h x y (inl p)))) (encloses-outside pc (sc .least d (λ x y q. h x y (inr q)))));
     }
   where
-    one : Around (hull b c) b
+    one : Outside (hull b c) b
     one = record { west = smaller-left (b .left) (c .left); east = larger-left (b .right) (c .right); south = smaller-left (b .low) (c .low); north = larger-left (b .high) (c .high) }
 
-    two : Around (hull b c) c
+    two : Outside (hull b c) c
     two = record { west = smaller-right (b .left) (c .left); east = larger-right (b .right) (c .right); south = smaller-right (b .low) (c .low); north = larger-right (b .high) (c .high) }
 
-    both : (d : Box) → Around d b → Around d c → Around d (hull b c)
+    both : (d : Box) → Outside d b → Outside d c → Outside d (hull b c)
     both d p q =
         record {
           west = smaller-both (λ z. d .left ≤ℤ z) (p .west) (q .west);

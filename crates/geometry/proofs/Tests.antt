@@ -1,13 +1,15 @@
 -- The tests of boxes and places, and what they say.
-use mathlib.Core.Path.{_≡_, refl, sym, subst}
-use mathlib.Core.Bool.{Bool, true, false, _&&_}
+use mathlib.Core.Path.{_≡_, refl, sym, ap, subst}
+use mathlib.Core.Logic.{_⊎_, inl, inr, ⊎-elim}
+use mathlib.Core.Bool.{Bool, true, false, _&&_, _||_}
 use lib.Dec.{T}
-use lib.IntN.{ℤ}
+use lib.IntN.{ℤ, pos}
 use lib.Signed.{leZ, _≤ℤ_}
-use Rattle.rules.proofs.AndLaws.{and-true, and-yes, same-test}
+use Rattle.rules.proofs.AndLaws.{and-true, and-yes}
 use Rattle.rules.specs.Limits.{leastCoordinate, mostCoordinate}
-use Rattle.geometry.specs.Box.{Box, Holds, holdsB, Within, withinB, WellShaped, wellShapedB}
-use Rattle.geometry.proofs.Order.{≤ℤ-trans}
+use Rattle.geometry.specs.Box.{Box, Holds, holdsB, Within, withinB, Sided, mark, WellShaped, sides, nothing, sidesB, sameB, noSidesB, wellShapedB}
+use Rattle.geometry.proofs.Order.{≤ℤ-trans, ≤ℤ-antisymm}
+use Rattle.geometry.proofs.SmallestLaws.{same-box}
 
 -- ---- A comparison
 
@@ -34,7 +36,7 @@ yes-within z h = and-yes (yes-le leastCoordinate z (h .above)) (yes-le z mostCoo
 pub place-yes : (x y : ℤ) → withinB x && withinB y ≡ true → Within x × Within y
 place-yes x y t = let p = and-true (withinB x) (withinB y) t in (within-yes x (p .0), within-yes y (p .1))
 
--- ---- A box holds a place, and is well shaped
+-- ---- A box holds a place
 
 module _ (b : Box) (x y : ℤ) where
   pub holds-yes : holdsB b x y ≡ true → Holds b x y
@@ -50,38 +52,7 @@ module _ (b : Box) (x y : ℤ) where
       (and-yes (and-yes (yes-le (b .left) x (h .west)) (yes-le x (b .right) (h .east))) (yes-le (b .low) y (h .south)))
       (yes-le y (b .high) (h .north))
 
-module _ (b : Box) where
-  pub shaped-yes : wellShapedB b ≡ true → WellShaped b
-  shaped-yes t =
-      let l = withinB (b .left) in
-      let r = withinB (b .right) in
-      let d = withinB (b .low) in
-      let u = withinB (b .high) in
-      let p₁ = and-true (l && r && d && u && leZ (b .left) (b .right)) (leZ (b .low) (b .high)) t in
-      let p₂ = and-true (l && r && d && u) (leZ (b .left) (b .right)) (p₁ .0) in
-      let p₃ = and-true (l && r && d) u (p₂ .0) in
-      let p₄ = and-true (l && r) d (p₃ .0) in
-      let p₅ = and-true l r (p₄ .0) in
-      record {
-        upright = record { across = le-yes (p₂ .1); upward = le-yes (p₁ .1) };
-        left-in = within-yes (b .left) (p₅ .0);
-        right-in = within-yes (b .right) (p₅ .1);
-        low-in = within-yes (b .low) (p₄ .1);
-        high-in = within-yes (b .high) (p₃ .1);
-      }
-
-  pub yes-shaped : WellShaped b → wellShapedB b ≡ true
-  yes-shaped w =
-      and-yes
-      (and-yes
-      (and-yes (and-yes (and-yes (yes-within (b .left) (w .left-in)) (yes-within (b .right) (w .right-in))) (yes-within (b .low) (w .low-in))) (yes-within (b .high) (w .high-in)))
-      (yes-le (b .left) (b .right) (w .upright .across)))
-      (yes-le (b .low) (b .high) (w .upright .upward))
-
--- ---- Two sides: neither beyond the limits nor reversed
-
-abbrev pub sidesB : ℤ → ℤ → Bool
-sidesB a b = leZ leastCoordinate a && leZ a b && leZ b mostCoordinate
+-- ---- Two sides
 
 record Sides (a b : ℤ) : Type 0 where
   above : leastCoordinate ≤ℤ a
@@ -94,24 +65,51 @@ sides-yes a b t =
     let q = and-true (leZ leastCoordinate a) (leZ a b) (p .0) in
     record { above = le-yes (q .0); across = le-yes (q .1); below = le-yes (p .1) }
 
-yes-sides : (a b : ℤ) → Sides a b → sidesB a b ≡ true
-yes-sides a b s = and-yes (and-yes (yes-le leastCoordinate a (s .above)) (yes-le a b (s .across))) (yes-le b mostCoordinate (s .below))
+yes-sides : {a b : ℤ} → Within a → Within b → a ≤ℤ b → sidesB a b ≡ true
+yes-sides {a} {b} p q l = and-yes (and-yes (yes-le leastCoordinate a (p .above)) (yes-le a b l)) (yes-le b mostCoordinate (q .below))
 
-pub shaped-by-sides : (b : Box) → wellShapedB b ≡ sidesB (b .left) (b .right) && sidesB (b .low) (b .high)
-shaped-by-sides b =
-    same-test (wellShapedB b) (sidesB (b .left) (b .right) && sidesB (b .low) (b .high))
-    (λ t.
-    let w = shaped-yes b t in
-    and-yes (yes-sides (b .left) (b .right) (record { above = w .left-in .above; across = w .upright .across; below = w .right-in .below }))
-    (yes-sides (b .low) (b .high) (record { above = w .low-in .above; across = w .upright .upward; below = w .high-in .below })))
-    (λ t.
-    let p = and-true (sidesB (b .left) (b .right)) (sidesB (b .low) (b .high)) t in
-    let h = sides-yes (b .left) (b .right) (p .0) in
-    let v = sides-yes (b .low) (b .high) (p .1) in
-    yes-shaped b (record {
-      upright = record { across = h .across; upward = v .across };
-      left-in = record { above = h .above; below = ≤ℤ-trans (h .across) (h .below) };
-      right-in = record { above = ≤ℤ-trans (h .above) (h .across); below = h .below };
-      low-in = record { above = v .above; below = ≤ℤ-trans (v .across) (v .below) };
-      high-in = record { above = ≤ℤ-trans (v .above) (v .across); below = v .below };
-    }))
+same-yes : (a b : ℤ) → sameB a b ≡ true → a ≡ b
+same-yes a b t = let p = and-true (leZ a b) (leZ b a) t in ≤ℤ-antisymm (le-yes (p .0)) (le-yes (p .1))
+
+no-sides-yes : (a b : ℤ) → noSidesB a b ≡ true → (a ≡ pos 1) × (b ≡ pos 0)
+no-sides-yes a b t =
+    let p = and-true (sameB a (pos 1)) (sameB b (pos 0)) t in
+    (same-yes a (pos 1) (p .0), same-yes b (pos 0) (p .1))
+
+-- ---- A well-shaped box
+
+-- one of two tests passes
+either-yes : (a b : Bool) → a || b ≡ true → (a ≡ true) ⊎ (b ≡ true)
+either-yes true b e = inl refl
+either-yes false b e = inr e
+
+module _ (b : Box) where
+  sided-yes : sidesB (b .left) (b .right) && sidesB (b .low) (b .high) ≡ true → Sided b
+  sided-yes t =
+      let p = and-true (sidesB (b .left) (b .right)) (sidesB (b .low) (b .high)) t in
+      let h = sides-yes (b .left) (b .right) (p .0) in
+      let v = sides-yes (b .low) (b .high) (p .1) in
+      record {
+        upright = record { across = h .across; upward = v .across };
+        left-in = record { above = h .above; below = ≤ℤ-trans (h .across) (h .below) };
+        right-in = record { above = ≤ℤ-trans (h .above) (h .across); below = h .below };
+        low-in = record { above = v .above; below = ≤ℤ-trans (v .across) (v .below) };
+        high-in = record { above = ≤ℤ-trans (v .above) (v .across); below = v .below };
+      }
+
+  mark-yes : noSidesB (b .left) (b .right) && noSidesB (b .low) (b .high) ≡ true → b ≡ mark
+  mark-yes t =
+      let p = and-true (noSidesB (b .left) (b .right)) (noSidesB (b .low) (b .high)) t in
+      let h = no-sides-yes (b .left) (b .right) (p .0) in
+      let v = no-sides-yes (b .low) (b .high) (p .1) in
+      same-box (h .0) (h .1) (v .0) (v .1)
+
+  pub shaped-yes : wellShapedB b ≡ true → WellShaped b
+  shaped-yes t =
+      ⊎-elim (λ h. sides (sided-yes h)) (λ h. nothing (mark-yes h))
+      (either-yes (sidesB (b .left) (b .right) && sidesB (b .low) (b .high)) (noSidesB (b .left) (b .right) && noSidesB (b .low) (b .high)) t)
+
+pub yes-shaped : (b : Box) → WellShaped b → wellShapedB b ≡ true
+yes-shaped b (sides s) =
+    rw (yes-sides (s .left-in) (s .right-in) (s .upright .across), yes-sides (s .low-in) (s .high-in) (s .upright .upward)) refl
+yes-shaped b (nothing e) = ap wellShapedB e

@@ -1,6 +1,6 @@
 -- The box test by wrapping subtraction: coordinates are shifted, and one comparison tests an axis.
 use Prim.Native.Nat.{ℕ, suc, _+_, _-_, _%_, _^_, _≤_, _<_}
-use mathlib.Core.Path.{_≡_, refl, sym, ap, _∙_}
+use mathlib.Core.Path.{_≡_, refl, sym, ap, subst, _∙_}
 use mathlib.Core.Bool.{Bool, true, false, _&&_}
 use native.Mathlib.Omega.{arith}
 use borrow.Author.Tests.{leb-true, le-leb, lt-leb, ltb-true, lt-ltb, le-ltb}
@@ -12,7 +12,7 @@ use mir.Val.{toZ, ofZ, SFits}
 use mir.Facts.{sfits-widen, toZ-ofZ}
 use Rattle.rules.specs.Limits.{mostCoordinate}
 use Rattle.rules.proofs.AndLaws.{and-true, and-yes, same-test}
-use Rattle.geometry.specs.Box.{Box, Within, WellShaped}
+use Rattle.geometry.specs.Box.{Box, Within, WellShaped, sides, nothing}
 use Rattle.geometry.specs.Shifted.{shifted, Span}
 use Rattle.geometry.proofs.Tests.{yes-le}
 
@@ -91,12 +91,24 @@ span {a} {b} h k l =
     let most : shifted b ≤ shifted mostCoordinate = shifted-below (within-small b k) (omega arith) (k .below) in
     record { across = omega arith; below = omega arith }
 
+-- the mark's sides: the second is one below the first
+no-span : Span (pos 1) (pos 0)
+unfolding shifted
+no-span = record { across = omega arith; below = omega arith }
+
+-- compared plainly, with the second side less the first and not one more, they would have every number between them
+pub plainly-all : (p q : ℕ) → p < 2 ^ 32 → q < 2 ^ 32 → (q + shifted (pos 1)) % 2 ^ 32 ≡ shifted (pos 0) → p ≤ q
+unfolding shifted
+plainly-all p q fp fq width = omega arith
+
 -- the sides of a well-shaped box
 pub span-across : {b : Box} → WellShaped b → Span (b .left) (b .right)
-span-across w = span (w .left-in) (w .right-in) (w .upright .across)
+span-across (sides s) = span (s .left-in) (s .right-in) (s .upright .across)
+span-across (nothing e) = subst (λ (c : Box). Span (c .left) (c .right)) (sym e) no-span
 
 pub span-upward : {b : Box} → WellShaped b → Span (b .low) (b .high)
-span-upward w = span (w .low-in) (w .high-in) (w .upright .upward)
+span-upward (sides s) = span (s .low-in) (s .high-in) (s .upright .upward)
+span-upward (nothing e) = subst (λ (c : Box). Span (c .low) (c .high)) (sym e) no-span
 
 -- four tests joined two and two are the four in turn
 pub two-axes : (a b c d : Bool) → (a && b) && (c && d) ≡ a && b && c && d

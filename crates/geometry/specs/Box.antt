@@ -1,6 +1,7 @@
 -- Boxes: what a box holds, when it is well shaped, and the smallest box around a set of places.
-use mathlib.Core.Bool.{Bool, _&&_}
-use lib.IntN.{ℤ}
+use mathlib.Core.Path.{_≡_}
+use mathlib.Core.Bool.{Bool, _&&_, _||_}
+use lib.IntN.{ℤ, pos}
 use lib.Signed.{_≤ℤ_, leZ}
 use Rattle.rules.specs.Limits.{leastCoordinate, mostCoordinate}
 
@@ -27,13 +28,23 @@ pub record Upright (b : Box) : Type 0 where
   pub across : b .left ≤ℤ b .right
   pub upward : b .low ≤ℤ b .high
 
--- A box is well shaped when left <= right, low <= high and all four are within coordinate limits.
-pub record WellShaped (b : Box) : Type 0 where
+-- and all four are within coordinate limits
+pub record Sided (b : Box) : Type 0 where
   pub upright : Upright b
   pub left-in : Within (b .left)
   pub right-in : Within (b .right)
   pub low-in : Within (b .low)
   pub high-in : Within (b .high)
+
+-- Left 1, right 0, low 1, high 0 means "holds nothing".
+abbrev pub mark : Box
+mark = record { left = pos 1; right = pos 0; low = pos 1; high = pos 0 }
+
+-- A box is well shaped when left <= right, low <= high and all four are within coordinate limits; or it is the mark, the only box
+-- with reversed sides which counts as well shaped.
+pub data WellShaped (b : Box) : Type 0 where
+  sides : Sided b → WellShaped b
+  nothing : b ≡ mark → WellShaped b
 
 -- every place that b holds, c holds
 abbrev pub Encloses : Box → Box → Type 0
@@ -52,5 +63,16 @@ holdsB b x y = leZ (b .left) x && leZ x (b .right) && leZ (b .low) y && leZ y (b
 abbrev pub withinB : ℤ → Bool
 withinB z = leZ leastCoordinate z && leZ z mostCoordinate
 
+-- two sides are within limits and not reversed
+abbrev pub sidesB : ℤ → ℤ → Bool
+sidesB a b = leZ leastCoordinate a && leZ a b && leZ b mostCoordinate
+
+-- or are those of the mark
+abbrev pub sameB : ℤ → ℤ → Bool
+sameB a b = leZ a b && leZ b a
+
+abbrev pub noSidesB : ℤ → ℤ → Bool
+noSidesB a b = sameB a (pos 1) && sameB b (pos 0)
+
 abbrev pub wellShapedB : Box → Bool
-wellShapedB b = withinB (b .left) && withinB (b .right) && withinB (b .low) && withinB (b .high) && leZ (b .left) (b .right) && leZ (b .low) (b .high)
+wellShapedB b = sidesB (b .left) (b .right) && sidesB (b .low) (b .high) || noSidesB (b .left) (b .right) && noSidesB (b .low) (b .high)

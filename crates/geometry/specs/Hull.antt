@@ -1,4 +1,4 @@
--- Boxes made of others: that of one place, the hull of two, and a box grown by a place.
+-- Boxes made of others: that of one place, the hull of two, a box grown by a place, and one that may be the mark.
 use mathlib.Core.Bool.{cond}
 use lib.IntN.{ℤ}
 use lib.Signed.{leZ}
@@ -26,3 +26,7 @@ hull b c = record {
 -- a box grown by a place
 abbrev pub grown : Box → ℤ → ℤ → Box
 grown b x y = hull b (placeBox x y)
+
+-- a box, or the mark, that takes in a place: the mark becomes the place's box
+unfoldable pub taken : Box → ℤ → ℤ → Box
+taken b x y = cond (leZ (b .left) (b .right)) (grown b x y) (placeBox x y)

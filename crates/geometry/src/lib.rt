@@ -5,8 +5,8 @@ ghost use mathlib.Core.Bool.{_&&_};
 ghost use Prim.Native.Nat.{_+_, _*_, _≤_, _<_};
 ghost use lib.ListN.{length};
 ghost use lib.Signed.{leZ};
-ghost use Rattle.geometry.specs.Box.{WellShaped, holdsB};
-ghost use Rattle.geometry.specs.Hull.{smaller, larger, placeBox, grown};
+ghost use Rattle.geometry.specs.Box.{WellShaped, mark, holdsB};
+ghost use Rattle.geometry.specs.Hull.{smaller, larger, taken};
 ghost use Rattle.geometry.specs.Row.{number, putFrom, boxOf, withBox};
 ghost use Rattle.geometry.specs.Shifted.{shifted, Span};
 use std::num::wrapping_sub_u32;
@@ -19,6 +19,7 @@ fn shift(z: i32) -> u32
 }
 
 // Whether a coordinate is from one side to the other, by one comparison: less the first side, wrapping, it is below the width.
+// Sides 1 and 0 have the width 0, so nothing is between them.
 fn between(from: i32, to: i32, z: i32) -> bool
     requires { ⌜ Span from to ⌝ }
     ensures { λ r. ⌜ r ≡ leZ from z && leZ z to ⌝ }
@@ -64,23 +65,27 @@ fn store(boxes: &mut [i32], at: usize, left: i32, right: i32, low: i32, high: i3
     boxes[at + 3] = high;
 }
 
-// The box of an arc becomes that of one place.
-pub fn start_box(boxes: &mut [i32], arc: usize, x: i32, y: i32)
+// The box of an arc becomes the mark, which holds nothing.
+pub fn empty_box(boxes: &mut [i32], arc: usize)
     requires { ⌜ (1 ≤ arc) × (4 * arc ≤ length (now boxes)) ⌝ }
-    ensures { λ r. ⌜ now (boxes .exit) ≡ withBox (now (boxes .entry)) arc (placeBox x y) ⌝ }
+    ensures { λ r. ⌜ now (boxes .exit) ≡ withBox (now (boxes .entry)) arc mark ⌝ }
 {
-    store(boxes, 4 * (arc - 1), x, x, y, y);
+    store(boxes, 4 * (arc - 1), 1, 0, 1, 0);
 }
 
-// The box of an arc becomes the smallest that holds it and a place.
+// The box of an arc, which may be the mark, takes in a place.
 pub fn grow_box(boxes: &mut [i32], arc: usize, x: i32, y: i32)
     requires { ⌜ (1 ≤ arc) × (4 * arc ≤ length (now boxes)) ⌝ }
-    ensures { λ r. ⌜ now (boxes .exit) ≡ withBox (now (boxes .entry)) arc (grown (boxOf (now (boxes .entry)) arc) x y) ⌝ }
+    ensures { λ r. ⌜ now (boxes .exit) ≡ withBox (now (boxes .entry)) arc (taken (boxOf (now (boxes .entry)) arc) x y) ⌝ }
 {
     let at = 4 * (arc - 1);
-    let left = smaller_at(boxes, at, x);
-    let right = larger_at(boxes, at + 1, x);
-    let low = smaller_at(boxes, at + 2, y);
-    let high = larger_at(boxes, at + 3, y);
-    store(boxes, at, left, right, low, high);
+    if boxes[at] <= boxes[at + 1] {
+        let left = smaller_at(boxes, at, x);
+        let right = larger_at(boxes, at + 1, x);
+        let low = smaller_at(boxes, at + 2, y);
+        let high = larger_at(boxes, at + 3, y);
+        store(boxes, at, left, right, low, high);
+    } else {
+        store(boxes, at, x, x, y, y);
+    }
 }

@@ -2,5 +2,4 @@ pub mod StageLaws
 pub mod FineLaws
 pub mod CutLaws
 pub mod NextLaws
-pub mod SideLaws
 pub mod OpenLaws

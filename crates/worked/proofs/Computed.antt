@@ -9,9 +9,8 @@ use Rattle.rules.specs.Paper.{Reply, accepted, refusal}
 use Rattle.rules.specs.declared.Judged.{Judged}
 use Rattle.rules.specs.declared.Judged.the-variants.{Fine, Refused}
 use Rattle.rules.specs.declared.Refusal.the-variants.{NoWalk, BoxMisses}
-use Rattle.walks.specs.Rows.{Rows, at, isOpen}
-use Rattle.geometry.specs.Box.{Box}
-use Rattle.geometry.specs.Hull.{grown}
+use Rattle.walks.specs.Rows.{Rows, isOpen}
+use Rattle.geometry.specs.Box.{Box, mark}
 use Rattle.geometry.specs.Row.{coordinate, boxOf, withBox}
 use Rattle.settling.specs.declared.Outcome.{Outcome}
 use Rattle.settling.specs.declared.Toward.the-variants.{Place}
@@ -23,7 +22,6 @@ use Rattle.judging.specs.Order.{searchJudged, boxedJudged, buildJudged, checkJu
 use Rattle.drawing.specs.declared.compare.Miss.{Miss}
 use Rattle.drawing.specs.declared.compare.Miss.the-variants.{Nowhere, First}
 use Rattle.drawing.specs.Leads.{leadsTo}
-use Rattle.drawing.specs.Heads.{headBox}
 use Rattle.drawing.specs.Grown.{grownBy}
 use Rattle.drawing.specs.Missed.{missesNode}
 use Rattle.boxwork.specs.Says.{changed}
@@ -69,10 +67,7 @@ module _ (n m : ℕ) (R : Rows) (x y : List ℤ) where
   grownOf e b = grownBy (λ t. leadsTo R n m t e) x y n b
 
   abbrev pub tightOf : ℕ → Box → Box
-  tightOf e old = grownOf e (headBox (R .heads) x y e)
-
-  abbrev pub mendedOf : ℕ → Box → Box
-  mendedOf e old = grownOf e (grown old (coordinate x (at (R .heads) e)) (coordinate y (at (R .heads) e)))
+  tightOf e old = grownOf e mark
 
   unfoldable pub buildTold : List ℤ → Told
   buildTold boxes = orTold (buildJudged n m R x y boxes) [] [] boxes (record { reply = accepted []; numbers = []; closures = []; boxes = drawnTo tightOf m boxes })
@@ -81,7 +76,7 @@ unfoldable pub updateTold : ℕ → ℕ → Rows → List ℤ → List ℤ → L
 updateTold n m R x y boxes arc weight closure =
     let S = changed R arc weight closure in
     orTold (updateJudged n m R x y boxes arc weight closure) (R .weights) (R .closures) boxes
-    (record { reply = accepted []; numbers = S .weights; closures = S .closures; boxes = drawnTo (mendedOf n m S x y) m boxes })
+    (record { reply = accepted []; numbers = S .weights; closures = S .closures; boxes = drawnTo (grownOf n m S x y) m boxes })
 
 -- ---- Check
 

@@ -30,7 +30,7 @@ use Rattle.drawing.proofs.DrawnLaws.{puts-box, drawn-none, drawn-next}
 use Rattle.boxwork.specs.Says.{Builds, Checks, Updates, BuildSays, CheckSays, UpdateSays, changed}
 use Rattle.boxwork.proofs.Meaning.{tight-made, updated-made, missed-first, missed-none}
 use Rattle.worked.proofs.LowestLaws.{lowest-arc}
-use Rattle.worked.proofs.Computed.{orTold, answerOf, searchTold, boxedTold, heldBy, drawnTo, tightOf, mendedOf, buildTold, updateTold, lowestArc, missReply, checkTold}
+use Rattle.worked.proofs.Computed.{orTold, answerOf, searchTold, boxedTold, heldBy, drawnTo, grownOf, tightOf, buildTold, updateTold, lowestArc, missReply, checkTold}
 use Rattle.worked.specs.Table.{Told}
 
 -- ---- Searches
@@ -77,7 +77,7 @@ module _ (n m : ℕ) (R : Rows) (x y boxes : List ℤ) where
   build-by (Refused r) e = Builds.refused e
   build-by Fine e =
       let l = build-fine n m R x y boxes e in
-      Builds.built e (drawn-to (tightOf n m R x y) m boxes (l .boxes-long) (λ i low high. tight-made (l .sound) x y i low high))
+      Builds.built e (drawn-to (tightOf n m R x y) m boxes (l .boxes-long) (λ i low high. tight-made (l .sound) x y (l .places) i low high))
 
   pub build-told : BuildSays n m R x y boxes (buildTold n m R x y boxes .reply) (buildTold n m R x y boxes .boxes)
   unfolding buildTold
@@ -87,7 +87,7 @@ module _ (n m : ℕ) (R : Rows) (x y boxes : List ℤ) where
     update-by : (j : Judged) → updateJudged n m R x y boxes arc weight closure ≡ j
         → let S = changed R arc weight closure in
         let told = orTold j (R .weights) (R .closures) boxes
-        (record { reply = accepted []; numbers = S .weights; closures = S .closures; boxes = drawnTo (mendedOf n m S x y) m boxes }) in
+        (record { reply = accepted []; numbers = S .weights; closures = S .closures; boxes = drawnTo (grownOf n m S x y) m boxes }) in
         UpdateSays n m R x y boxes arc weight closure (told .reply) (rows (R .tails) (R .heads) (told .numbers) (told .closures)) (told .boxes)
     unfolding orTold
     update-by (Refused r) e = Updates.refused e
@@ -96,7 +96,7 @@ module _ (n m : ℕ) (R : Rows) (x y boxes : List ℤ) where
         let k = check-fine n m R x y boxes (u .0) in
         let l = build-fine n m R x y boxes (k .0) in
         let sound = sound-changed (l .sound) arc weight closure (u .1) (u .2) (u .3) in
-        Updates.updated e (drawn-to (mendedOf n m (changed R arc weight closure) x y) m boxes (l .boxes-long) (λ i low high. updated-made sound x y i low high (k .1 .each i low high .upright)))
+        Updates.updated e (drawn-to (grownOf n m (changed R arc weight closure) x y) m boxes (l .boxes-long) (λ i low high. updated-made sound x y (l .places) i low high (k .1 .each i low high)))
 
     pub update-told : let told = updateTold n m R x y boxes arc weight closure in
         UpdateSays n m R x y boxes arc weight closure (told .reply) (rows (R .tails) (R .heads) (told .numbers) (told .closures)) (told .boxes)

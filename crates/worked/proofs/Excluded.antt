@@ -10,7 +10,7 @@ use Rattle.geometry.specs.Box.{Box}
 use Rattle.geometry.specs.Row.{boxOf}
 use Rattle.walks.specs.Rows.{Rows}
 use Rattle.boxwork.specs.Says.{BuildSays, UpdateSays}
-use Rattle.boxwork.proofs.TightLaws.{tight-unique}
+use Rattle.boxwork.proofs.TightLaws.{around-unique}
 use Rattle.boxwork.proofs.SaysLaws.{update-unique}
 use Rattle.boxwork.proofs.Accepting.{build-accepts}
 use Rattle.worked.specs.Plans.{west, triangle, triangleBoxes, mendedBoxes}
@@ -49,4 +49,4 @@ unfolding table west
 not-from-the-origin b =
     let right = build-accepts (line-of 25 table-right) refl .1 .entries 1 (omega arith) (omega arith) in
     let wrong = build-accepts b refl .1 .entries 1 (omega arith) (omega arith) in
-    pos-ne-negsuc 0 19 (sym (ap (λ (c : Box). c .right) (tight-unique right wrong)))
+    pos-ne-negsuc 0 19 (sym (ap (λ (c : Box). c .right) (around-unique right wrong)))

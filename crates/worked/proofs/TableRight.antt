@@ -11,7 +11,7 @@ use Rattle.rules.proofs.AndLaws.{and-true}
 use Rattle.rules.proofs.JudgingLaws.{is-fine}
 use Rattle.walks.specs.Rows.{network}
 use Rattle.walks.specs.Through.{InS}
-use Rattle.geometry.specs.Hull.{smaller, larger}
+use Rattle.geometry.specs.Hull.{smaller, larger, taken}
 use Rattle.settling.specs.Labels.{before, startOf, labelled, offered, marked}
 use Rattle.settling.specs.Settle.{arcStep, relaxed, settleOf}
 use Rattle.settling.specs.Nearest.{better, leaderOf, nearestOf}
@@ -26,7 +26,7 @@ use Rattle.drawing.specs.Missed.{missesNode}
 use Rattle.reasons.specs.Using.{Among}
 use Rattle.reasons.specs.Steps.{isAmong}
 use Rattle.reasons.proofs.Computed.{reasonBy, reasonOf, judgedReply, replyOf, reply-says}
-use Rattle.worked.specs.Plans.{hall, reweightedHall, closedHall, shutHall, oneWay, zeros, behind, west, triangle, detour, closedTriangle, bridge, liftedBridge, hallBoxes, closedBoxes, raisedBoxes, fullBoxes, treeBoxes, triangleBoxes, mendedBoxes, route}
+use Rattle.worked.specs.Plans.{hall, reweightedHall, closedHall, cutHall, shutHall, oneWay, zeros, behind, west, triangle, detour, closedTriangle, bridge, liftedBridge, hallBoxes, ledBoxes, closedBoxes, raisedBoxes, wideBoxes, flatBoxes, fullBoxes, treeBoxes, triangleBoxes, mendedBoxes, route}
 use Rattle.worked.proofs.Computed.{orTold, answerOf, searchTold, boxedTold, drawnTo, buildTold, updateTold, lowestNode, orArc, lowestArc, checkTold, membersFrom, membersOf}
 use Rattle.worked.proofs.ComputedLaws.{search-told, boxed-told, build-told, check-told, update-told}
 use Rattle.worked.proofs.MembersLaws.{members-are}
@@ -81,10 +81,10 @@ each-right (c ∷ cs) h = let p = and-true (passes c) (allPass cs) h in line (pa
 
 pub table-right : TableRight
 unfolding
-    table allPass passes hall reweightedHall closedHall shutHall oneWay zeros behind west triangle detour closedTriangle bridge liftedBridge
-    hallBoxes closedBoxes raisedBoxes fullBoxes treeBoxes triangleBoxes mendedBoxes
+    table allPass passes hall reweightedHall closedHall cutHall shutHall oneWay zeros behind west triangle detour closedTriangle bridge liftedBridge
+    hallBoxes ledBoxes closedBoxes raisedBoxes wideBoxes flatBoxes fullBoxes treeBoxes triangleBoxes mendedBoxes
     orTold answerOf searchTold boxedTold drawnTo buildTold updateTold lowestNode orArc lowestArc checkTold membersFrom
-    arcsJudged networkJudged searchedBy placedBy shapedBy searchJudged boxedJudged buildJudged checkJudged updateJudged whyJudged each smaller larger
+    arcsJudged networkJudged searchedBy placedBy shapedBy searchJudged boxedJudged buildJudged checkJudged updateJudged whyJudged each smaller larger taken
     before startOf labelled offered marked arcStep relaxed settleOf better leaderOf nearestOf afterPick runOf
     fits firstOf arcFits intoOf afterInto traceOf onShortest leadsAt lengthsTo grownIf grownBy missesNode
     isAmong reasonBy reasonOf judgedReply replyOf

@@ -5,6 +5,8 @@ use lib.IntN.{ℤ, pos, negsuc}
 use lib.ListN.{set, replicate}
 use Rattle.rules.specs.Limits.{mostWeight, leastCoordinate, mostCoordinate}
 use Rattle.walks.specs.Rows.{Rows, rows}
+use Rattle.geometry.specs.Box.{mark}
+use Rattle.geometry.specs.Row.{withBox}
 use Rattle.boxwork.specs.Says.{changed}
 
 pub record Plan : Type 0 where
@@ -35,6 +37,10 @@ reweightedHall = with hall (changed (hall .rows) 5 6 0)
 -- the hall with arc 3 closed
 unfoldable pub closedHall : Plan
 closedHall = with hall (changed (hall .rows) 3 5 1)
+
+-- the hall with arc 4 closed: to node 4 only arc 5 is left
+unfoldable pub cutHall : Plan
+cutHall = with hall (changed (hall .rows) 4 1 1)
 
 -- the hall with arcs 1, 3 and 5 closed: every track out of node 1
 unfoldable pub shutHall : Plan
@@ -111,23 +117,34 @@ liftedBridge = with bridge (changed (bridge .rows) 1 mostWeight 1)
 abbrev box : ℤ → ℤ → ℤ → ℤ → List ℤ → List ℤ
 box left right low high more = left ∷ right ∷ low ∷ high ∷ more
 
--- the hall's tight boxes, as 01 prints them
+-- the hall's tight boxes, as 01 prints them; arc 5 has the mark
 unfoldable pub hallBoxes : List ℤ
 hallBoxes =
     box (negsuc 4) (pos 10) (pos 0) (pos 20)
     (box (negsuc 4) (pos 10) (pos 0) (pos 20)
     (box (negsuc 4) (pos 10) (pos 5) (pos 20)
     (box (negsuc 4) (pos 10) (pos 0) (pos 20)
-    (box (negsuc 4) (negsuc 4) (pos 20) (pos 20)
+    (box (pos 1) (pos 0) (pos 1) (pos 0)
     (box (pos 0) (pos 10) (pos 0) (pos 5) [])))))
+
+-- arc 5's box at node 4, where it leads there
+unfoldable pub ledBoxes : List ℤ
+ledBoxes = withBox hallBoxes 5 (record { left = negsuc 4; right = negsuc 4; low = pos 20; high = pos 20 })
+
+-- arc 5's left at 2 and not at 1, and its low and high no longer reversed: boxes with reversed sides that are not the mark
+unfoldable pub wideBoxes : List ℤ
+wideBoxes = set hallBoxes 16 (pos 2)
+
+unfoldable pub flatBoxes : List ℤ
+flatBoxes = set hallBoxes 19 (pos 1)
 
 -- arc 3's low raised to 6
 unfoldable pub raisedBoxes : List ℤ
 raisedBoxes = set hallBoxes 10 (pos 6)
 
--- arc 3's left and high drawn in, so that its box is its head
+-- arc 3 with the mark too
 unfoldable pub closedBoxes : List ℤ
-closedBoxes = set (set hallBoxes 8 (pos 10)) 11 (pos 5)
+closedBoxes = withBox hallBoxes 3 mark
 
 -- so many boxes at the full limits
 unfoldable pub fullBoxes : ℕ → List ℤ

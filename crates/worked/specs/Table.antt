@@ -1,6 +1,6 @@
--- The starred lines of 01, the errors that learners bring, the closed tracks of request b and the reasons of request e: one table
--- under one statement. The statement is made of the functions' own relations, so that each line says what a function replies and writes. `table-right` in
--- proofs/TableRight.antt proves it.
+-- The starred lines of 01, the errors that learners bring, the closed tracks of request b, the reasons of request e and the mark of
+-- request f: one table under one statement. The statement is made of the functions' own relations, so that each line says what a
+-- function replies and writes. `table-right` in proofs/TableRight.antt proves it.
 use Prim.Native.Nat.{ℕ}
 use mathlib.Core.Logic.{_↔_}
 use mathlib.Core.List.{List, [], _∷_}
@@ -8,7 +8,7 @@ use lib.IntN.{ℤ, pos, negsuc}
 use lib.ListN.{replicate}
 use Rattle.rules.specs.Limits.{mostWeight}
 use Rattle.rules.specs.Paper.{Reply, accepted, refusal}
-use Rattle.rules.specs.declared.Refusal.the-variants.{NoWalk, BoxMisses}
+use Rattle.rules.specs.declared.Refusal.the-variants.{BadBox, NoWalk, BoxMisses}
 use Rattle.walks.specs.Walk.{WalkBy}
 use Rattle.walks.specs.Rows.{rows, network}
 use Rattle.walks.specs.Through.{InS}
@@ -18,7 +18,7 @@ use Rattle.reasons.specs.Reason.{Reason, closed, cut-off, longer, tied, on-rout
 use Rattle.reasons.specs.Paper as reasons
 use Rattle.reasons.specs.Says.{WhySays}
 use Rattle.boxwork.specs.Says.{BuildSays, CheckSays, UpdateSays}
-use Rattle.worked.specs.Plans.{Plan, hall, reweightedHall, closedHall, shutHall, oneWay, zeros, behind, west, triangle, detour, closedTriangle, bridge, liftedBridge, hallBoxes, closedBoxes, raisedBoxes, fullBoxes, treeBoxes, triangleBoxes, mendedBoxes, blank, route}
+use Rattle.worked.specs.Plans.{Plan, hall, reweightedHall, closedHall, cutHall, shutHall, oneWay, zeros, behind, west, triangle, detour, closedTriangle, bridge, liftedBridge, hallBoxes, ledBoxes, closedBoxes, raisedBoxes, wideBoxes, flatBoxes, fullBoxes, treeBoxes, triangleBoxes, mendedBoxes, blank, route}
 
 -- a reply, with the route or weight row, the row of closures and the box row afterwards, where the call may write them
 pub record Told : Type 0 where
@@ -77,6 +77,9 @@ noWalk settled row = record { reply = refusal (NoWalk settled); numbers = row; c
 abbrev yes : Told
 yes = record { reply = accepted []; numbers = []; closures = []; boxes = [] }
 
+abbrev badBox : ℕ → Told
+badBox arc = record { reply = refusal (BadBox arc); numbers = []; closures = []; boxes = [] }
+
 abbrev misses : ℕ → ℕ → Told
 misses arc node = record { reply = refusal (BoxMisses arc node); numbers = []; closures = []; boxes = [] }
 
@@ -93,7 +96,7 @@ because r = record { reply = reasons.told r; numbers = []; closures = []; boxes 
 
 unfoldable pub table : List Case
 table =
-    -- S(1) is {2,3,4}. S(5) is empty, so its box is its head.
+    -- S(1) is {2,3,4}. S(5) is empty, so its box is the mark.
     set hall 1 (2 ∷ 3 ∷ 4 ∷ [])
     ∷ set hall 5 []
     ∷ call (build hall blank) (draws hallBoxes)
@@ -112,8 +115,8 @@ table =
     -- With arc 3's low raised to 6, check gives 13, arc 3, node 3. With every box at the full limits it accepts.
     ∷ call (check hall raisedBoxes) (misses 3 3)
     ∷ call (check hall (fullBoxes 6)) yes
-    -- Arc 5 reweighted to 6: 1 to 4 goes by arc 5 alone.
-    ∷ call (update hall hallBoxes 5 6 0) (writes (3 ∷ 2 ∷ 5 ∷ 1 ∷ 6 ∷ 4 ∷ []) (0 ∷ 0 ∷ 0 ∷ 0 ∷ 0 ∷ 0 ∷ []) hallBoxes)
+    -- Arc 5 reweighted to 6: 1 to 4 goes by arc 5 alone. Its box, the mark, takes the place of 4.
+    ∷ call (update hall hallBoxes 5 6 0) (writes (3 ∷ 2 ∷ 5 ∷ 1 ∷ 6 ∷ 4 ∷ []) (0 ∷ 0 ∷ 0 ∷ 0 ∷ 0 ∷ 0 ∷ []) ledBoxes)
     ∷ call (search reweightedHall 1 4) (found 6 1 4 (5 ∷ 0 ∷ 0 ∷ 0 ∷ []))
     -- Two nodes, only arc 2 to 1: from 1 to 2 is 12, settled 1.
     ∷ call (search oneWay 1 2) (noWalk 1 route)
@@ -134,7 +137,7 @@ table =
     ∷ walk hall 1 4 9 (5 ∷ [])
     -- Error 4, ties by order of discovery: the route is the same by other boxes that check accepts.
     ∷ call (boxed hall (fullBoxes 6) 1 4) (found 6 2 4 (3 ∷ 4 ∷ 0 ∷ 0 ∷ []))
-    -- Request b. With arc 3 closed S(3) is empty, so its box is its head; 1 to 4 goes by arcs 1, 2 and 4.
+    -- Request b. With arc 3 closed S(3) is empty, so its box is the mark; 1 to 4 goes by arcs 1, 2 and 4.
     ∷ set closedHall 3 []
     ∷ call (build closedHall blank) (draws closedBoxes)
     ∷ call (search closedHall 1 4) (found 6 3 4 (1 ∷ 2 ∷ 4 ∷ 0 ∷ []))
@@ -170,6 +173,18 @@ table =
     ∷ call (why oneWay 2 2 1) (because cut-off)
     -- With the triangle's arc 3 closed: from 2 its start cannot be reached either, but closed comes first.
     ∷ call (why closedTriangle 2 3 3) (because closed)
+    -- Request f. Check accepts the mark. With its left at 2, or with its low and high not reversed, arc 5 is 10.
+    ∷ call (check hall hallBoxes) yes
+    ∷ call (check hall wideBoxes) (badBox 5)
+    ∷ call (check hall flatBoxes) (badBox 5)
+    -- Back at its old time arc 5 leads nowhere, and an update leaves its box as it was.
+    ∷ call (update reweightedHall ledBoxes 5 9 0) (writes (3 ∷ 2 ∷ 5 ∷ 1 ∷ 9 ∷ 4 ∷ []) (0 ∷ 0 ∷ 0 ∷ 0 ∷ 0 ∷ 0 ∷ []) ledBoxes)
+    -- With arc 4 closed arc 5 leads to node 4, which the mark does not hold: check gives 13, arc 5, node 4. An update mends it.
+    ∷ call (check cutHall hallBoxes) (misses 5 4)
+    ∷ call (update hall hallBoxes 4 1 1) (writes (3 ∷ 2 ∷ 5 ∷ 1 ∷ 9 ∷ 4 ∷ []) (0 ∷ 0 ∷ 0 ∷ 1 ∷ 0 ∷ 0 ∷ []) ledBoxes)
+    -- The test of request d, run on the mark: the arc may not be used, so 2 to 1 is 12; and check misses node 1.
+    ∷ call (boxed oneWay (pos 1 ∷ pos 0 ∷ pos 1 ∷ pos 0 ∷ []) 2 1) (noWalk 1 route)
+    ∷ call (check oneWay (pos 1 ∷ pos 0 ∷ pos 1 ∷ pos 0 ∷ [])) (misses 1 1)
     ∷ []
 
 -- THE STATEMENT of the table: every line is right

@@ -9,7 +9,7 @@ use Rattle.boxwork.specs.Says.{Updates, changed}
 use Rattle.judging.proofs.StageLaws.{BoxesLent as Lent}
 use Rattle.judging.proofs.FineLaws.{build-fine, check-fine, update-fine}
 use Rattle.boxwork.proofs.ChangedLaws.{lent-changed}
-use Rattle.boxwork.proofs.Meaning.{heads-nodes, updated-says}
+use Rattle.boxwork.proofs.Meaning.{updated-says}
 use borrow.Author.Needs.{needs}
 use Rattle.boxwork.proofs.update.Statement.{statement}
 use Rattle.boxwork.proofs.update.Tie as tie
@@ -32,19 +32,24 @@ returns c = let e = c .enum-told2 .given .1 in rw e (Updates.refused (sym (c .be
 
 set-arc-requires : tie.Need-set-arc-requires
 set-arc-requires c κs =
-    let f = fine (c .before .before .before .before) (c .before .before .enum-told .given .1) in (f .1, omega (arith, f .2, f .0 .sound .weights-long), omega (arith, f .2, f .0 .sound .closures-long))
-
-draw-heads-requires : tie.Need-draw-heads-requires
-draw-heads-requires c κs =
-    let f = fine (c .before .before .before .before .before .before .before .before .before .before) (c .before .before .before .before .before .before .before .before .enum-told .given .1) in let l = f .0 in (heads-nodes (l .sound) (l .x-long) (omega (arith, f .2)), heads-nodes (l .sound) (l .y-long) (omega (arith, f .2)), omega (arith, f .2, l .boxes-long))
+    let f = fine (c .before .before .before .before) (c .before .before .enum-told .given .1) in
+    (f .1, omega (arith, f .2, f .0 .sound .weights-long), omega (arith, f .2, f .0 .sound .closures-long))
 
 grow-all-requires : tie.Need-grow-all-requires
 grow-all-requires c κs =
-    let f = fine (c .before .before .before .before .before .before .before .before .before .before .before .before .before .before .before) (c .before .before .before .before .before .before .before .before .before .before .before .before .before .enum-told .given .1) in let l = f .3 in (rw (c .before .before .before .before .before .before .before .before .before .before .set-arc .ensures .0, c .before .before .before .before .before .before .before .before .before .before .set-arc .ensures .1) (first-arcs (l .sound) _ (omega (arith, f .2))), l .x-long, l .y-long, omega (arith, f .2, l .boxes-long, c .before .before .before .before .draw-heads .ensures .long))
+    let f = fine (c .before .before .before .before .before .before .before .before .before .before .before .before) (c .before .before .before .before .before .before .before .before .before .before .enum-told .given .1) in
+    let l = f .3 in
+    let wrote = c .before .before .before .before .before .before .before .set-arc .ensures in
+    (rw (wrote .0, wrote .1) (first-arcs (l .sound) _ (omega (arith, f .2))), l .x-long, l .y-long, omega (arith, f .2, l .boxes-long))
 
 returns-2 : tie.Need-returns-2
 returns-2 c =
-    let a = c .before .before .before .before .before .before .before .before .before .before .before .before .before .before .before .before .before .before .before .before .before .before .before .before .before .args in updated-says _ (rows (a .tails .now) (a .heads .now) (a .weights .now) (a .closures .now)) (a .arc) (a .weight) (a .closure) (sym (c .before .before .before .before .before .before .before .before .before .before .before .before .before .before .before .before .before .judge-update .ensures) ∙ c .before .before .before .before .before .before .before .before .before .before .before .before .before .before .before .enum-told .given .1) (rw (c .before .before .before .before .before .before .before .before .before .before .before .before .set-arc .ensures .0, c .before .before .before .before .before .before .before .before .before .before .before .before .set-arc .ensures .1) refl) (c .before .before .before .before .before .before .draw-heads .ensures) (c .before .grow-all .ensures)
+    let a = c .before .before .before .before .before .before .before .before .before .before .before .before .before .before .before .before .before .before .before .before .before .before .args in
+    let wrote = c .before .before .before .before .before .before .before .before .before .set-arc .ensures in
+    updated-says _ (rows (a .tails .now) (a .heads .now) (a .weights .now) (a .closures .now)) (a .arc) (a .weight) (a .closure)
+    (sym (c .before .before .before .before .before .before .before .before .before .before .before .before .before .before .judge-update .ensures) ∙ c .before .before .before .before .before .before .before .before .before .before .before .before .enum-told .given .1)
+    (rw (wrote .0, wrote .1) refl)
+    (c .before .grow-all .ensures)
 
 pub update-spec : {M : Type 1} → statement M
 update-spec =
@@ -54,7 +59,6 @@ update-spec =
     (λ c. search needs)
     returns
     set-arc-requires
-    draw-heads-requires
     grow-all-requires
     (λ c. search needs) (λ c. search needs) (λ c. search needs)
     returns-2)
