@@ -15,20 +15,21 @@ use Rattle.scan.specs.Fields.{none}
 use Rattle.scan.specs.declared.holding.Numbers.{Numbers}
 use Rattle.scan.specs.declared.line.Line.{Line}
 use Rattle.scan.specs.declared.line.Line.the-variants.{Comment, Problem, Data, Faulty}
 use Rattle.dimacs.specs.Rules.{within}
 use Rattle.dimacs.specs.Gr.{grProblem, grArc, grLine}
 use Rattle.dimacs.specs.Co.{coProblem, coNode, coLine}
+use Rattle.dimacs.specs.P2p.{p2pProblem, p2pQuery, p2pLine}
 use Rattle.dimacs.specs.Formats.{formatLine, rulesOf}
 use Rattle.dimacs.specs.Judgement.{announced, dataJudged, judged, ended}
 use Rattle.dimacs.specs.Texts.{read, State, place, next, onJudged, readLines}
 use Rattle.dimacs.specs.declared.format.Rules.{Rules}
 use Rattle.dimacs.specs.declared.format.Format.{Format}
-use Rattle.dimacs.specs.declared.format.Format.the-variants.{Graph, Coordinates}
+use Rattle.dimacs.specs.declared.format.Format.the-variants.{Graph, Coordinates, Queries}
 use Rattle.rules.proofs.AndLaws.{and-true}
 use Rattle.rules.proofs.JudgingLaws.{passed}
 use Rattle.dimacs.proofs.Fairness.{problem-fine, data-fine}
 use Rattle.dimacs.proofs.Sound.{Entry, onward}
 use Rattle.dimacs.proofs.Counting.{clash}
 use Rattle.scan.specs.Line.{isComment}
 use Rattle.scan.proofs.FormLaws.{line-comment}
 
@@ -104,9 +105,10 @@ read-on F (l ∷ ls) (ns ∷ nss) k s g e n top h =
 -- ---- the lines of a text that has no comments
 
 pub comment-out : (F : Format) (l : List ℕ) → formatLine F l ≡ Comment → isComment l ≡ false → ⊥
-unfolding grLine coLine
+unfolding grLine coLine p2pLine
 comment-out Graph l e f = line-comment grProblem grArc l e f
 comment-out (Coordinates n) l e f = line-comment coProblem coNode l e f
+comment-out (Queries n) l e f = line-comment p2pProblem p2pQuery l e f
 
 -- after the problem line come data lines, within limits and as many as it says
 pub record Rest (F : Format) (ls : List (List ℕ)) (s : State) (p : Numbers) : Type 0 where

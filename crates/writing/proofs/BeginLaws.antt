@@ -12,17 +12,17 @@ use Rattle.scan.specs.Pieces.{linesOf}
 use Rattle.scan.specs.declared.holding.Numbers.{Numbers}
 use Rattle.scan.specs.declared.line.Line.{Line}
 use Rattle.scan.specs.declared.line.Line.the-variants.{Comment, Problem, Data, Faulty}
 use Rattle.dimacs.specs.Rules.{within}
 use Rattle.dimacs.specs.Formats.{formatLine, rulesOf}
 use Rattle.dimacs.specs.Judgement.{announced, problemJudged, judged, ended}
 use Rattle.dimacs.specs.Texts.{read, State, start, next, onJudged, readLines, readText}
 use Rattle.dimacs.specs.declared.format.Format.{Format}
 use Rattle.dimacs.proofs.Fairness.{data-fine}
 use Rattle.dimacs.proofs.Sound.{Entry, onward}
 use Rattle.dimacs.proofs.Counting.{clash}
 use Rattle.scan.specs.Line.{isComment}
 use Rattle.scan.specs.Written.{NoComments}
-use Rattle.dimacs.proofs.TextLaws.{Going, read-on, Rest, rest-lines, comment-out}
+use Rattle.writing.proofs.TextLaws.{Going, read-on, Rest, rest-lines, comment-out}
 
 -- after the problem line
 abbrev pub opened : Numbers → State
