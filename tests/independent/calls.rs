@@ -55,7 +55,7 @@ pub fn judge_places(lent: &Lent) -> Result<Vec<Place>, Refusal> {
 }
 
 /// The boxes of the arcs, after refusal 10.
-fn judge_boxes(lent: &Lent) -> Result<Vec<Rectangle>, Refusal> {
+pub fn judge_boxes(lent: &Lent) -> Result<Vec<Rectangle>, Refusal> {
     let sides = &lent.boxes[..4 * lent.m as usize];
     let boxes: Vec<Rectangle> = sides.chunks(4).map(Rectangle::from_sides).collect();
     match boxes.iter().position(|rectangle| !rectangle.well_shaped()) {
@@ -81,7 +81,7 @@ fn judge_arc(lent: &Lent, arc: i64) -> Result<usize, Refusal> {
 }
 
 /// The rows that box work needs besides those of the network.
-fn box_rows(lent: &Lent) -> [(&Vec<i64>, i64); 3] {
+pub fn box_rows(lent: &Lent) -> [(&Vec<i64>, i64); 3] {
     [(&lent.x, lent.n), (&lent.y, lent.n), (&lent.boxes, 4 * lent.m)]
 }
 
@@ -90,6 +90,11 @@ fn search_among(lent: &mut Lent, arcs: &[Arc], s: usize, t: usize) -> Result<Fou
     let found = network::search(lent.n as usize, &open(arcs), s, t)?;
     fill(&mut lent.route, found.route.iter().map(|arc| *arc as i64));
     Ok(found)
+}
+
+/// The arcs whose box holds a place.
+pub fn holding(arcs: &[Arc], boxes: &[Rectangle], place: Place) -> Vec<Arc> {
+    arcs.iter().filter(|arc| boxes[arc.number - 1].holds(place)).copied().collect()
 }
 
 /// Search without boxes.
@@ -106,8 +111,7 @@ pub fn boxed(lent: &mut Lent, s: i64, t: i64) -> Result<Found, Refusal> {
     let places = judge_places(lent)?;
     let boxes = judge_boxes(lent)?;
     let (s, t) = judge_ends(lent, s, t)?;
-    let holding: Vec<Arc> = arcs.into_iter().filter(|arc| boxes[arc.number - 1].holds(places[t])).collect();
-    search_among(lent, &holding, s, t)
+    search_among(lent, &holding(&arcs, &boxes, places[t]), s, t)
 }
 
 /// Why the arc is not on the route of a search without boxes. No route row is lent.

@@ -5,8 +5,8 @@ use crate::files::joined;
 use crate::lent::Lent;
 use crate::plans::{add_surplus, ask, change_boxes, plan, some_bytes, spoil, Asked};
 use crate::random::Random;
-use crate::sizes::{NODES, WEIGHT};
-use crate::texts::{co_text, damage, gr_text, with_slips};
+use crate::sizes::{NODES, QUERIES, WEIGHT};
+use crate::texts::{co_text, damage, gr_text, p2p_text, some_queries, with_slips};
 use crate::writing::{write_co, write_gr};
 
 /// The files that are there, and the lines that are typed. A file whose name ends in `/` is a folder.
@@ -99,12 +99,13 @@ fn some_whys(random: &mut Random, lent: &Lent) -> Vec<String> {
 
 /// A small case of any kind. `name` is for its files.
 pub fn small(random: &mut Random, name: &str) -> Case {
-    match random.below(24) {
+    match random.below(30) {
         0..=2 => text_case(random, name),
         3..=6 => slip_case(random, name),
         7 | 8 => talk_case(random),
         9..=11 => write_case(random, name),
         12..=15 => update_case(random),
+        16..=19 => day_case(random, name),
         _ => call_case(random),
     }
 }
@@ -243,6 +244,52 @@ fn slip_case(random: &mut Random, name: &str) -> Case {
     case
 }
 
+/// A text as it is typed: well, with slips of the hand, or with other things wrong.
+pub fn typed(random: &mut Random, text: Vec<u8>) -> Vec<u8> {
+    match random.below(5) {
+        0 => with_slips(random, &text),
+        1 => damage(random, &text),
+        2 => {
+            let damaged = damage(random, &text);
+            damage(random, &damaged)
+        }
+        _ => text,
+    }
+}
+
+/// One or two running lists on a small plan, for a row of about as many answers as there may be. The texts and the rows
+/// are spoilt in some things or in none; now and then a text tells another count of queries than it has, or its last query
+/// names no node.
+pub fn day_case(random: &mut Random, name: &str) -> Case {
+    let (n, m) = (random.between(1, 7), random.between(0, 14));
+    let mut lent = plan(random, n, m);
+    let mut asked = ask(random, &lent);
+    change_boxes(random, &mut lent);
+    lent.answers = (0..QUERIES).map(|_| random.between(0, 99)).collect();
+    add_surplus(random, &mut lent);
+    for _ in 0..random.pick(&[0, 0, 0, 1, 1, 2]) {
+        spoil(random, &mut lent, &mut asked);
+    }
+    let mut case = Case::default();
+    case.lend(&lent);
+    for number in 1..=random.pick(&[1, 1, 2]) {
+        let mut queries = some_queries(random, n);
+        if let Some((s, t)) = queries.last_mut().filter(|_| random.once_in(5)) {
+            *if random.once_in(2) { s } else { t } = random.pick(&[0, n + 1, NODES + 1]);
+        }
+        let count = queries.len() as i64 + random.pick(&[0, 0, 0, 0, 0, 0, 0, 1, -1]);
+        let text = p2p_text(random, count.max(0), &queries);
+        let file = format!("{name}-{number}.p2p");
+        case.say(format!("p2p {file}"));
+        case.file(file, typed(random, text));
+        case.show_rows();
+    }
+    if random.once_in(9) {
+        case.say(format!("p2p {name}-missing.p2p"));
+    }
+    case
+}
+
 /// How long the texts of a plan are that is within the limits.
 fn text_lengths(lent: &Lent) -> [i64; 2] {
     let mut roomy = Lent { text: vec![0; 40_960], ..lent.clone() };
@@ -302,7 +349,7 @@ pub fn write_case(random: &mut Random, name: &str) -> Case {
 
 /// Lines that are no commands, or that name numbers at the ends of their types.
 #[rustfmt::skip]
-pub const ODD_LINES: [&[u8]; 97] = [
+pub const ODD_LINES: [&[u8]; 106] = [
     b"", b" ", b"\t", b"\r", b"  ", b" n 1", b"n 1 ", b"n  1", b"n\t1", b"n 1\r", b"n\r", b" \r",
     b"N 1", b"nn 1", b"1", b"?", b"n", b"m", b"n 1 2", b"n 01", b"n -1", b"n -0", b"n +1", b"n x", b"n 0",
     b"m 4294967295", b"m 4294967296", b"n 18446744073709551617", b"m 1x",
@@ -318,6 +365,8 @@ pub const ODD_LINES: [&[u8]; 97] = [
     b"update x 4294967296 256", b"update 1 4294967296 x", b"update 1 1 01", b"update 1 1 255",
     b"lend closed 256", b"lend closed 255 2 1 0", b"show closed 4097",
     b"why", b"why 1 1", b"why 1 1 1 1", b"why 1 1 x", b"why 01 1 1", b"why 1 -1 1", b"why 1 1 4294967296",
+    b"p2p", b"p2p .", b"p2p missing", b"p2p a b", b"P2P a", b"p2p a\0b", b"lend answers 4294967295 0", b"lend answers -1",
+    b"show answers 513",
     b"why 4294967296 x 1", b"why x 4294967296 1", b"why 4294967295 4294967295 4294967295", b"why 1 1 1 boxes", b"Why 1 1 1",
 ];
 
@@ -349,14 +398,28 @@ fn talk_case(random: &mut Random) -> Case {
     case
 }
 
-/// The files for the program `boxes`: a pair, damaged, typed with slips or neither, or with one lacking or a folder.
+/// The files for the program `boxes`.
 pub fn boxes_case(random: &mut Random) -> Case {
     let (n, m) = (random.between(1, 6), random.between(0, 9));
     let plan = plan(random, n, m);
-    let mut texts = [("net.gr", gr_text(random, &plan)), ("net.co", co_text(random, &plan))];
+    let texts = [("net.gr", gr_text(random, &plan)), ("net.co", co_text(random, &plan))];
+    files_case(random, texts)
+}
+
+/// The files for the program `journeys`.
+pub fn journeys_case(random: &mut Random) -> Case {
+    let (n, m) = (random.between(1, 6), random.between(0, 9));
+    let (plan, queries) = (plan(random, n, m), some_queries(random, n));
+    let day = p2p_text(random, queries.len() as i64, &queries);
+    let texts = [("net.gr", gr_text(random, &plan)), ("net.co", co_text(random, &plan)), ("day.p2p", day)];
+    files_case(random, texts)
+}
+
+/// The files that a program reads, damaged, typed with slips or neither, or with one lacking or a folder.
+fn files_case<const FILES: usize>(random: &mut Random, mut texts: [(&str, Vec<u8>); FILES]) -> Case {
     let slips = random.once_in(2);
     for _ in 0..random.pick(&[0, 0, 1, 1, 2]) {
-        let text = &mut texts[random.below(2)].1;
+        let text = &mut texts[random.below(FILES)].1;
         *text = if slips { with_slips(random, text) } else { damage(random, text) };
     }
     let mut case = Case::default();

@@ -1,16 +1,16 @@
-//! The claims of request c: lines whose fault is told by hand, all lines of few fields, and texts with slips.
+//! The claims of request c, for .p2p too: lines whose fault is told by hand, all lines of few fields, and texts with slips.
 
 use crate::cases::Case;
-use crate::files::{listing, rows_for_reading};
+use crate::files::{journeys, listing, rows_for_reading};
 use crate::lent::Lent;
 use crate::plans::plan;
 use crate::random::Random;
 use crate::refusals::Refusal;
 use crate::scratch::Scratch;
 use crate::selftest::Tally;
-use crate::slips::{slip, Format, Slip, CO, GR};
-use crate::text::{has_co_form, has_gr_form, lines, read_co, read_gr};
-use crate::texts::{co_text, damage, gr_text, with_slips};
+use crate::slips::{slip, Format, Slip, CO, GR, P2P};
+use crate::text::{has_co_form, has_gr_form, has_p2p_form, lines, read_co, read_gr, read_p2p};
+use crate::texts::{co_text, damage, gr_text, p2p_text, with_slips};
 
 /// A kind of file: its lines as 02 reads them and as 01 does, a line of each form, and lines told by hand.
 struct Kind {
@@ -22,19 +22,20 @@ struct Kind {
 }
 
 #[rustfmt::skip]
-const KINDS: [Kind; 2] = [
+const KINDS: [Kind; 3] = [
     Kind { name: "gr", format: GR, has_form: has_gr_form, samples: ["p sp 1 1", "a 1 1 1"], told: &GR_SLIPS },
     Kind { name: "co", format: CO, has_form: has_co_form, samples: ["p aux sp co 1", "v 1 1 1"], told: &CO_SLIPS },
+    Kind { name: "p2p", format: P2P, has_form: has_p2p_form, samples: ["p aux sp p2p 1", "q 1 1"], told: &P2P_SLIPS },
 ];
 
 /// Lines of .gr with the refusal and the column, by the words of 02.
 #[rustfmt::skip]
-const GR_SLIPS: [(&[u8], usize, i64); 50] = [
+const GR_SLIPS: [(&[u8], usize, i64); 52] = [
     (b"", 3, 1),
     // No permitted letter, or an empty field before the others.
     (b" ", 15, 1), (b"  ", 15, 1), (b" a 1 2 3", 15, 1), (b" c", 15, 1), (b"\r", 15, 1), (b"v", 15, 1),
     (b"v 1 2 3", 15, 1), (b"A 1 2 3", 15, 1), (b"aa 1 2 3", 15, 1), (b"a\t1 2 3", 15, 1), (b"1 2 3", 15, 1),
-    (b"cx", 15, 1), (b"c\r", 15, 1), (b"a\r", 15, 1), (b"\xef\xbb\xbfp sp 4 6", 15, 1), (b"# x", 15, 1),
+    (b"q 1 2", 15, 1), (b"q", 15, 1), (b"cx", 15, 1), (b"c\r", 15, 1), (b"a\r", 15, 1), (b"\xef\xbb\xbfp sp 4 6", 15, 1), (b"# x", 15, 1),
     // A later field misspelt.
     (b"p xx 4 6", 16, 3), (b"p aux sp co 4", 16, 3), (b"p SP 4 6", 16, 3), (b"p 4 6", 16, 3), (b"p  sp 4 6", 16, 3),
     (b"p sp 4 -6", 16, 8), (b"p sp 04 6", 16, 6), (b"p sp sp 4 6", 16, 6),
@@ -51,15 +52,32 @@ const GR_SLIPS: [(&[u8], usize, i64); 50] = [
 
 /// The same of .co.
 #[rustfmt::skip]
-const CO_SLIPS: [(&[u8], usize, i64); 31] = [
+const CO_SLIPS: [(&[u8], usize, i64); 33] = [
     (b"", 3, 1),
     (b" ", 15, 1), (b"a 1 2 3", 15, 1), (b" v 1 0 0", 15, 1), (b"V 1 0 0", 15, 1), (b"vv", 15, 1), (b"d 1 0 0", 15, 1),
+    (b"q 1 1", 15, 1), (b"p aux sp p2p 4", 16, 10),
     (b"v 1 07 1", 16, 5), (b"v 1 -0 1", 16, 5), (b"v 1 1 -", 16, 7), (b"v -1 0 0", 16, 3), (b"v 1 --1 0", 16, 5),
     (b"v 1 0  ", 16, 7), (b"v  1 0 0", 16, 3), (b"v 10 -5 +20", 16, 9), (b"v 1 2.5 0", 16, 5),
     (b"p sp 4 6", 16, 3), (b"p aux 4", 16, 7), (b"p aux sp 4", 16, 10), (b"p aux sp co -4", 16, 13),
     (b"p aux  sp co 4", 16, 7), (b"p aux sp co ", 16, 13), (b"v 01 -0 x y", 16, 3), (b"v 1 0 x y", 16, 7),
     (b"v", 17, 2), (b"v 1 -10", 17, 8), (b"p aux sp co", 17, 12), (b"p aux", 17, 6),
     (b"v 1 0 0 ", 17, 9), (b"v 1 -1 -1 0", 17, 11), (b"p aux sp co 4 4", 17, 15),
+];
+
+/// The same of .p2p.
+#[rustfmt::skip]
+const P2P_SLIPS: [(&[u8], usize, i64); 39] = [
+    (b"", 3, 1),
+    (b" ", 15, 1), (b"a 1 2 3", 15, 1), (b"v 1 0 0", 15, 1), (b" q 1 1", 15, 1), (b"Q 1 1", 15, 1), (b"qq 1 1", 15, 1),
+    (b"q\t1 1", 15, 1), (b"cx", 15, 1), (b"c\r", 15, 1), (b"1 1", 15, 1),
+    (b"p sp 4 6", 16, 3), (b"p p2p 4", 16, 3), (b"p aux p2p 4", 16, 7), (b"p aux sp co 4", 16, 10),
+    (b"p aux sp P2P 4", 16, 10), (b"p aux sp p2 4", 16, 10), (b"p aux sp p2p -1", 16, 14), (b"p aux sp p2p 04", 16, 14),
+    (b"p aux sp p2p ", 16, 14), (b"q ", 16, 3), (b"q -1 1", 16, 3), (b"q  1 1", 16, 3), (b"q 01 1", 16, 3),
+    (b"q x", 16, 3), (b"q 1  1", 16, 5), (b"q 1 -0", 16, 5), (b"q 1 1\r", 16, 5), (b"q 10 2.5", 16, 6),
+    (b"q 1 x 1", 16, 5),
+    (b"q", 17, 2), (b"q 100", 17, 6), (b"p", 17, 2), (b"p aux sp p2p", 17, 13),
+    (b"q 1 1 ", 17, 7), (b"q 1 1 1", 17, 7), (b"q 12 34 56", 17, 9), (b"p aux sp p2p 1 ", 17, 16),
+    (b"p aux sp p2p 1 1", 17, 16),
 ];
 
 /// The lines told by hand, each behind a `p` line in a file of its own: the kind of file, its name, text and slip.
@@ -87,7 +105,7 @@ pub fn told_case() -> Case {
     case
 }
 
-/// The reply to a slip in the second line, and what `boxes` prints of it.
+/// The reply to a slip in the second line, and what the programs print of it.
 fn replies(slip: Slip) -> (String, String) {
     let Slip { number, column } = slip;
     let words = match number {
@@ -96,10 +114,10 @@ fn replies(slip: Slip) -> (String, String) {
         16 => format!("line 2, column {column}: the field is misspelt"),
         _ => format!("line 2, column {column}: a field is missing or one too many"),
     };
-    (format!("refused {number} 2 {column} ({words})"), format!("refused {number} 2 {column}\n"))
+    (format!("refused {number} 2 {column} ({words})"), format!("refused {number} 2 {column}"))
 }
 
-/// The lines told by hand: by themselves, at the console, and in `boxes`.
+/// The lines told by hand: by themselves, at the console, in `boxes` and in `journeys`.
 pub fn told_by_hand(tally: &mut Tally) {
     for Kind { name, format, told, .. } in KINDS {
         for (line, number, column) in told {
@@ -116,10 +134,24 @@ pub fn told_by_hand(tally: &mut Tally) {
         tally.expect(reply == demanded, format!("{name}: {demanded}, not {reply}"));
     }
     for (kind, name, text, slip) in told_files() {
-        let graph = if kind == "gr" { text.clone() } else { b"p sp 1 0\n".to_vec() };
-        scratch.write(&[("net.gr".to_string(), graph), ("net.co".to_string(), text)]);
-        let (printed, demanded) = (listing(&scratch.folder), replies(slip).1);
-        tally.expect(printed == demanded, format!("boxes, {name}: {demanded}, not {printed}"));
+        let good = [
+            ("gr", "net.gr", "p sp 1 0\n"),
+            ("co", "net.co", "p aux sp co 1\nv 1 0 0\n"),
+            ("p2p", "day.p2p", ""),
+        ];
+        let of = |own: &str, good: &str| if own == kind { text.clone() } else { good.into() };
+        scratch.write(&good.map(|(own, file, good)| (file.to_string(), of(own, good))));
+        let demanded = replies(slip).1;
+        let (boxes, journeys) = (listing(&scratch.folder), journeys(&scratch.folder));
+        tally.expect(
+            kind == "p2p" || boxes == format!("{demanded}\n"),
+            format!("boxes, {name}: {demanded}, not {boxes}"),
+        );
+        let file = if kind == "p2p" { "day.p2p".to_string() } else { format!("net.{kind}") };
+        tally.expect(
+            journeys == format!("{demanded} {file}\n"),
+            format!("journeys, {name}: {demanded}, not {journeys}"),
+        );
     }
 }
 
@@ -165,7 +197,8 @@ fn of_a_line(tally: &mut Tally, kind: &Kind, line: &[u8]) {
 
 /// Fields for lines of every kind.
 #[rustfmt::skip]
-const FIELDS: [&str; 14] = ["", "a", "v", "p", "c", "sp", "aux", "co", "0", "12", "07", "-3", "-0", "x"];
+const FIELDS: [&str; 16] =
+    ["", "a", "v", "q", "p", "c", "sp", "aux", "co", "p2p", "0", "12", "07", "-3", "-0", "x"];
 
 /// All lines of up to four of these fields, and some of more.
 pub fn all_short_lines(tally: &mut Tally) {
@@ -177,7 +210,7 @@ pub fn all_short_lines(tally: &mut Tally) {
     }
     let mut random = Random::new(3);
     for _ in 0..20_000 {
-        let sample = random.pick(&["p sp 1 1", "a 1 1 1", "p aux sp co 1", "v 1 1 1"]);
+        let sample = random.pick(&KINDS.map(|kind| kind.samples).concat());
         let mut line: Vec<&str> = sample.split(' ').collect();
         for _ in 0..random.between(1, 3) {
             let (at, field) = (random.below(line.len()), random.pick(&FIELDS));
@@ -227,7 +260,11 @@ pub fn claims(tally: &mut Tally, random: &mut Random) {
     let plan = plan(random, n, m);
     let before = Lent { n, ..rows_for_reading() };
     for kind in &KINDS {
-        let text = if kind.name == "gr" { gr_text(random, &plan) } else { co_text(random, &plan) };
+        let text = match kind.name {
+            "gr" => gr_text(random, &plan),
+            "co" => co_text(random, &plan),
+            _ => p2p_text(random, 2, &[(1, n), (n, 1)]),
+        };
         let slipped = with_slips(random, &text);
         let other = if random.once_in(2) { &slipped } else { &text };
         let damaged = damage(random, other);
@@ -235,7 +272,8 @@ pub fn claims(tally: &mut Tally, random: &mut Random) {
             let mut lent = before.clone();
             let reply = match kind.name {
                 "gr" => read_gr(&text, &mut lent).map(drop),
-                _ => read_co(&text, &mut lent),
+                "co" => read_co(&text, &mut lent),
+                _ => read_p2p(&text, &lent).map(drop),
             };
             of_a_text(tally, kind, &text, reply, lent == before);
             for line in lines(&text).into_iter().filter(|line| line.len() < 100) {

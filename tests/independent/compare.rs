@@ -1,10 +1,10 @@
-//! The comparison: what two programs write for many cases, beside what 01 and 02 demand.
+//! The comparison: what three programs write for many cases, beside what 01 and 02 demand.
 
-use crate::cases::{boxes_case, small, Case};
+use crate::cases::{boxes_case, journeys_case, small, Case};
 use crate::columns::told_case;
-use crate::files::listing;
+use crate::files;
 use crate::hall;
-use crate::limits::{limit_case, limit_slips, limit_texts, limit_why, limit_writing, streams};
+use crate::limits::{limit_case, limit_day, limit_slips, limit_texts, limit_why, limit_writing, streams};
 use crate::random::Random;
 use crate::scratch::Scratch;
 use crate::shrink::{shrunk, told};
@@ -15,6 +15,9 @@ use std::sync::mpsc::{channel, Receiver, RecvTimeoutError};
 use std::thread;
 use std::time::Duration;
 
+/// The small cases, if no other count is asked for.
+pub const COUNT: usize = 24_000;
+
 /// How long a program may write nothing while it owes a reply; less while a mismatch is shrunk.
 const PATIENCE: Duration = Duration::from_secs(120);
 const SHORT_PATIENCE: Duration = Duration::from_secs(30);
@@ -22,8 +25,8 @@ const SHORT_PATIENCE: Duration = Duration::from_secs(30);
 /// Cases that one start of the console gets.
 const BATCH: usize = 250;
 
-/// Small cases for one case of `boxes`, each of which is a start of its own.
-const SMALL_PER_BOXES: usize = 60;
+/// Small cases for one case of `boxes` or `journeys`, each of which is a start of its own.
+const SMALL_PER_START: usize = 60;
 
 /// A program under test: the words that start it, and what it must write for a case.
 struct Program {
@@ -225,8 +228,7 @@ fn answers_at_once(console: &Program, scratch: &Scratch) -> Result<(), String> {
 /// All cases, one kind after the other, up to the first mismatch. Every part draws the same random numbers.
 fn all_agree(
     comparison: &mut Comparison,
-    console: &Program,
-    boxes: &Program,
+    [console, boxes, journeys]: [&Program; 3],
     seed: u64,
     count: usize,
 ) -> Result<(), String> {
@@ -256,26 +258,32 @@ fn all_agree(
     comparison.compare(console, &[limit_why()])?;
     comparison.compare(console, &[limit_writing()])?;
     comparison.compare(console, &[limit_slips()])?;
+    comparison.compare(console, &[limit_day()])?;
     comparison.tell("cases at the limits");
-    for _ in 0..count / SMALL_PER_BOXES {
+    for _ in 0..count / SMALL_PER_START {
         comparison.compare(boxes, &[boxes_case(random)])?;
     }
     comparison.tell("cases of boxes");
+    for _ in 0..count / SMALL_PER_START {
+        comparison.compare(journeys, &[journeys_case(random)])?;
+    }
+    comparison.tell("cases of journeys");
     Ok(())
 }
 
-/// Compares the programs that the two commands start; true if all cases of the part agree.
-pub fn run(part: Part, console: &str, boxes: &str, seed: u64, count: usize) -> bool {
-    let console = Program::new(console, |scratch, case| {
+/// Compares the programs that the three commands start: console, boxes, journeys; true if all cases of the part agree.
+pub fn run(part: Part, commands: [&str; 3], seed: u64, count: usize) -> bool {
+    let console = Program::new(commands[0], |scratch, case| {
         if case.saves() {
             scratch.demanded_with_files(&case.input())
         } else {
             scratch.demanded(&case.input())
         }
     });
-    let boxes = Program::new(boxes, |scratch, _| listing(&scratch.folder).into_bytes());
+    let boxes = Program::new(commands[1], |scratch, _| files::listing(&scratch.folder).into_bytes());
+    let journeys = Program::new(commands[2], |scratch, _| files::journeys(&scratch.folder).into_bytes());
     let mut comparison = Comparison { scratch: Scratch::new(), part, starts: 0, compared: 0, told: 0 };
-    let outcome = all_agree(&mut comparison, &console, &boxes, seed, count);
+    let outcome = all_agree(&mut comparison, [&console, &boxes, &journeys], seed, count);
     let (compared, Part { number, of }) = (comparison.compared, part);
     let from = format!("seed {seed}, part {}/{of}", number + 1);
     match &outcome {

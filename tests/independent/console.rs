@@ -3,6 +3,7 @@
 use crate::calls;
 use crate::files::{joined, Folder};
 use crate::lent::Lent;
+use crate::lists::{run_day, Day};
 use crate::network::Found;
 use crate::refusals::Refusal;
 use crate::text::{number, read_co, read_gr, signed_number};
@@ -47,7 +48,7 @@ pub struct Row {
 }
 
 #[rustfmt::skip]
-pub const ROWS: [Row; 9] = [
+pub const ROWS: [Row; 10] = [
     Row { name: "tails", places: 4_096, kind: Kind::Count, of: |lent| &mut lent.tails },
     Row { name: "heads", places: 4_096, kind: Kind::Count, of: |lent| &mut lent.heads },
     Row { name: "weights", places: 4_096, kind: Kind::Count, of: |lent| &mut lent.weights },
@@ -57,6 +58,7 @@ pub const ROWS: [Row; 9] = [
     Row { name: "route", places: 1_024, kind: Kind::Count, of: |lent| &mut lent.route },
     Row { name: "text", places: 40_960, kind: Kind::Byte, of: |lent| &mut lent.text },
     Row { name: "closed", places: 4_096, kind: Kind::Byte, of: |lent| &mut lent.closed },
+    Row { name: "answers", places: 512, kind: Kind::Count, of: |lent| &mut lent.answers },
 ];
 
 /// Why a line is no command. Of several faults the first in this list is told;
@@ -92,15 +94,15 @@ pub const FAULT_WORDS: [&str; 11] = [
 ];
 
 #[rustfmt::skip]
-const COMMANDS: [&[u8]; 14] = [
-    b"n", b"m", b"lend", b"show", b"gr", b"co", b"build", b"check", b"update", b"search", b"boxed",
+const COMMANDS: [&[u8]; 15] = [
+    b"n", b"m", b"lend", b"show", b"gr", b"co", b"p2p", b"build", b"check", b"update", b"search", b"boxed",
     b"why", b"fresh", b"help",
 ];
 
 pub const HELP: &str =
-    "commands: n N, m M, lend ROW VALUES, show ROW, show ROW K, gr FILE, co FILE, build, check, \
+    "commands: n N, m M, lend ROW VALUES, show ROW, show ROW K, gr FILE, co FILE, p2p FILE, build, check, \
     update ARC WEIGHT BYTE, search S T, boxed S T, why S T ARC, write gr, write co, save gr FILE, save co FILE, \
-    fresh, help; rows: tails, heads, weights, x, y, boxes, route, text, closed";
+    fresh, help; rows: tails, heads, weights, x, y, boxes, route, text, closed, answers";
 
 /// A reply other than the one hoped for.
 enum No {
@@ -210,6 +212,10 @@ impl Console {
                 return Ok(format!("ok {} {}", lent.n, lent.m));
             }
             [b"co", file] => read_co(&folder.read(file)?, lent)?,
+            [b"p2p", file] => {
+                let Day { found, none, sum } = run_day(lent, &folder.read(file)?)?;
+                return Ok(format!("ok {found} {none} {sum}"));
+            }
             [b"build"] => calls::build(lent)?,
             [b"check"] => calls::check(lent)?,
             [b"update", arc, weight, byte] => {

@@ -1,9 +1,10 @@
-//! Files, and what the program `boxes` prints for a pair of them.
+//! Files, and what the programs `boxes` and `journeys` print for those of a plan and of a day.
 
 use crate::calls::build;
 use crate::lent::Lent;
+use crate::lists::{answered, totals, Answered, Day};
 use crate::refusals::{refused, Refusal};
-use crate::sizes::{ARCS, NODES, TEXT_BYTES};
+use crate::sizes::{ARCS, NODES, QUERIES, TEXT_BYTES};
 use crate::text::{read_co, read_gr};
 use std::collections::BTreeMap;
 use std::ffi::OsStr;
@@ -89,15 +90,29 @@ pub fn rows_for_reading() -> Lent {
         y: nodes,
         boxes: vec![0; 4 * ARCS as usize],
         closed: vec![0; ARCS as usize],
+        answers: vec![0; QUERIES as usize],
         ..Lent::default()
     }
 }
 
-fn built(folder: &Path) -> Result<Lent, Refusal> {
+/// A refusal, and the file that it is of.
+type OfFile = (Refusal, &'static str);
+
+/// What is read from a file of the folder.
+fn read_from<T>(
+    folder: &Path,
+    file: &'static str,
+    read: impl FnOnce(&[u8]) -> Result<T, Refusal>,
+) -> Result<T, OfFile> {
+    read_file(&folder.join(file)).and_then(|text| read(&text)).map_err(|refusal| (refusal, file))
+}
+
+/// The plan of `net.gr` and `net.co` in the folder, with its boxes.
+fn built(folder: &Path) -> Result<Lent, OfFile> {
     let mut lent = rows_for_reading();
-    (lent.n, lent.m) = read_gr(&read_file(&folder.join("net.gr"))?, &mut lent)?;
-    read_co(&read_file(&folder.join("net.co"))?, &mut lent)?;
-    build(&mut lent)?;
+    (lent.n, lent.m) = read_from(folder, "net.gr", |text| read_gr(text, &mut lent))?;
+    read_from(folder, "net.co", |text| read_co(text, &mut lent))?;
+    build(&mut lent).expect("what the readers take has boxes");
     Ok(lent)
 }
 
@@ -105,7 +120,7 @@ fn built(folder: &Path) -> Result<Lent, Refusal> {
 pub fn listing(folder: &Path) -> String {
     let lent = match built(folder) {
         Ok(lent) => lent,
-        Err(refusal) => return refusal.with_place() + "\n",
+        Err((refusal, _)) => return refusal.with_place() + "\n",
     };
     let mut listing = String::new();
     for e in 0..lent.m as usize {
@@ -114,6 +129,26 @@ pub fn listing(folder: &Path) -> String {
         listing += &(joined(&fields) + "\n");
     }
     listing
+}
+
+/// What `journeys` prints for `net.gr`, `net.co` and `day.p2p` in the folder: a line per query and one with the totals,
+/// or the refusal and the file that it is of.
+pub fn journeys(folder: &Path) -> String {
+    let day = |lent: Lent| read_from(folder, "day.p2p", |text| answered(&lent, text));
+    match built(folder).and_then(day) {
+        Ok(answered) => journeyed(&answered),
+        Err((refusal, file)) => format!("{} {file}\n", refusal.with_place()),
+    }
+}
+
+fn journeyed(answered: &Answered) -> String {
+    let mut lines = String::new();
+    for ((s, t), length) in answered {
+        let told = length.map_or("no route".to_string(), |length| length.to_string());
+        lines += &format!("{s} {t} {told}\n");
+    }
+    let Day { found, none, sum } = totals(answered);
+    lines + &format!("{found} {none} {sum}\n")
 }
 
 /// Numbers divided by single spaces.

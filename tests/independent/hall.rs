@@ -16,8 +16,13 @@ pub const LISTING: &str = "\
 6 4 1 4 0 10 0 5
 ";
 
-/// Its lines as console commands with the replies; the plan is read from `hall.gr` and `hall.co`.
-pub const TALK: [(&str, &str); 47] = [
+/// A running list for it, and what `journeys` prints for that.
+pub const DAY: &str = "c four journeys\np aux sp p2p 4\nq 1 4\nq 1 2\nq 4 2\nq 1 1\n";
+
+pub const JOURNEYS: &str = "1 4 6\n1 2 3\n4 2 7\n1 1 0\n4 0 16\n";
+
+/// Its lines as console commands with the replies; the plan is read from `hall.gr` and `hall.co`, the list from `hall.p2p`.
+pub const TALK: [(&str, &str); 49] = [
     ("gr hall.gr", "ok 4 6"),
     ("co hall.co", "ok"),
     ("build", "ok"),
@@ -31,6 +36,8 @@ pub const TALK: [(&str, &str); 47] = [
     ("search 4 2", "ok 7 2 3 6 1"),
     ("boxed 1 1", "ok 0 0 1"),
     ("search 1 1", "ok 0 0 1"),
+    ("p2p hall.p2p", "ok 4 0 16"),
+    ("show answers 5", "answers 6 3 7 0 0"),
     // Each arc, from 1 to 4.
     ("why 1 4 1", "ok 4 (an equally short way uses it, and the tie rule picked another)"),
     ("why 1 4 2", "ok 4 (an equally short way uses it, and the tie rule picked another)"),
@@ -77,6 +84,7 @@ pub fn case() -> Case {
     let files = [
         ("hall.gr", GR),
         ("hall.co", CO),
+        ("hall.p2p", DAY),
         ("minus.gr", "p sp 2 1\na 1 2 -3\n"),
         ("heavy.gr", "p sp 2 1\na 1 2 1000001\n"),
         ("zero.co", "p aux sp co 4\nv 0 1 1\n"),

@@ -16,6 +16,8 @@ pub struct Lent {
     pub text: Vec<i64>,
     /// Bytes: of each arc 0 where it is open, 1 where it is closed.
     pub closed: Vec<i64>,
+    /// Of each query of a running list its length.
+    pub answers: Vec<i64>,
 }
 
 /// Writes the first places of a row; the others keep their contents.

@@ -5,7 +5,7 @@ use crate::console::LINE_BYTES;
 use crate::lent::Lent;
 use crate::plans::{add_surplus, ask, plan};
 use crate::random::Random;
-use crate::sizes::{ARCS, COORDINATE, NODES, TEXT_BYTES, WEIGHT};
+use crate::sizes::{ARCS, COORDINATE, NODES, QUERIES, TEXT_BYTES, WEIGHT};
 use crate::texts::{co_text, gr_text};
 
 /// Inputs in which the end or the length of a line matters.
@@ -14,6 +14,8 @@ pub fn streams() -> Vec<Case> {
         |begin: &str, bytes: usize| begin.bytes().chain(vec![b'x'; bytes - begin.len()]).collect::<Vec<u8>>();
     let boxes = |places: usize| format!("lend boxes{}", " -2147483648".repeat(places)).into_bytes();
     let bytes = |row: &str, places: usize| format!("lend {row}{}", " 255".repeat(places)).into_bytes();
+    let counts =
+        |row: &str, places: usize| format!("lend {row}{}", " 4294967295".repeat(places)).into_bytes();
     let (help, show) = (|| b"help".to_vec(), || b"show boxes 3".to_vec());
     let inputs = [
         vec![],
@@ -33,6 +35,8 @@ pub fn streams() -> Vec<Case> {
         vec![bytes("text", 40_961), b"show text 3".to_vec()],
         vec![bytes("closed", 4_096), b"show closed".to_vec()],
         vec![bytes("closed", 4_097), b"show closed 3".to_vec()],
+        vec![counts("answers", 512), b"show answers".to_vec()],
+        vec![counts("answers", 513), b"show answers 3".to_vec()],
     ];
     let both_ends = |lines: &Vec<Vec<u8>>| {
         [false, true].map(|unended| Case { lines: lines.clone(), unended, ..Case::default() })
@@ -114,6 +118,64 @@ pub fn limit_why() -> Case {
     case
 }
 
+/// A running list of so many equal queries, said to be `count`.
+fn list_text(count: i64, queries: i64, query: &str) -> Vec<u8> {
+    format!("p aux sp p2p {count}\n{}", format!("q {query}\n").repeat(queries as usize)).into_bytes()
+}
+
+/// Lists of about as many queries as there may be, each for the longest way there can be or for none; rows of about as
+/// many places as there must be; texts as long as they may be; and what is judged after the text.
+pub fn limit_day() -> Case {
+    let (n, m) = (NODES as usize, ARCS as usize);
+    let chain = |e: i64| if e < NODES - 1 { (e + 1, e + 2) } else { (NODES, NODES) };
+    let mut lent = Lent { n: NODES, m: ARCS, answers: vec![7; 512], ..Lent::default() };
+    (lent.tails, lent.heads) = (0..ARCS).map(chain).unzip();
+    (lent.weights, lent.closed) = (vec![WEIGHT; m], vec![0; m]);
+    (lent.x, lent.y) = (vec![0; n], vec![0; n]);
+    lent.boxes = [-COORDINATE, COORDINATE].repeat(2 * m);
+    let mut case = Case::default();
+    case.lend(&lent);
+    let longest = format!("1 {NODES}");
+    let mut texts: Vec<(String, Vec<u8>)> = Vec::new();
+    for count in [0, 1, QUERIES - 1, QUERIES, QUERIES + 1] {
+        texts.push((format!("day{count}.p2p"), list_text(count, count, &longest)));
+    }
+    for (count, queries) in [(QUERIES, QUERIES - 1), (QUERIES, QUERIES + 1), (0, 1), (4_294_967_296, 0)] {
+        texts.push((format!("day{count}-{queries}.p2p"), list_text(count, queries, &longest)));
+    }
+    let both =
+        [list_text(QUERIES, QUERIES / 2, &longest), format!("q {NODES} 1\n").repeat(n / 4).into_bytes()];
+    texts.push(("both.p2p".to_string(), both.concat()));
+    texts.push(("outside.p2p".to_string(), list_text(1, 1, &format!("1 {}", NODES + 1))));
+    for bytes in [TEXT_BYTES, TEXT_BYTES + 1] {
+        let day = list_text(1, 1, &longest);
+        let comment = format!("c {}\n", "x".repeat(bytes - day.len() - 3)).into_bytes();
+        texts.push((format!("bytes{bytes}.p2p"), [comment, day].concat()));
+    }
+    for (file, text) in texts {
+        case.say(format!("p2p {file}"));
+        case.say("show answers");
+        case.file(file, text);
+    }
+    for places in [QUERIES - 1, QUERIES, QUERIES + 1] {
+        case.say(format!("lend answers{}", " 7".repeat(places as usize)));
+        case.say("p2p day1.p2p");
+        case.say("p2p bytes65537.p2p");
+        case.say("show answers");
+    }
+    // n is judged before the text, m and the rows after it.
+    for line in
+        ["m 2049", "p2p day256.p2p", "p2p outside.p2p", "n 513", "p2p outside.p2p", "p2p bytes65537.p2p"]
+    {
+        case.say(line);
+    }
+    for line in ["n 512", "m 2048", "lend boxes", "p2p day256.p2p", "p2p day256-257.p2p"] {
+        case.say(line);
+    }
+    case.show_rows();
+    case
+}
+
 /// The longest texts there can be, written into rows of their length, of a place less, and of all places.
 pub fn limit_writing() -> Case {
     let (n, m) = (NODES as usize, ARCS as usize);
@@ -189,11 +251,13 @@ pub fn limit_texts(random: &mut Random, name: &str) -> Case {
 
 /// What begins and ends a text whose middle, a number, makes it as long as a text may be.
 #[rustfmt::skip]
-const FAR_RIGHT: [(&str, &str, &str); 16] = [
+const FAR_RIGHT: [(&str, &str, &str); 22] = [
     ("gr", "a ", ""), ("gr", "a ", " "), ("gr", "a 1 ", " x"), ("gr", "a 1 1 ", " "), ("gr", "a 1 1 ", " 1"),
     ("gr", "a 1 1 ", "x"), ("gr", "p sp ", " x"), ("gr", "p sp 1 ", " "), ("gr", "p sp 1 1\na ", " 1 "),
     ("gr", "p sp 1 1\na ", " 1\n"), ("gr", "p sp 1 1\na 1 ", " 1 \n"),
     ("co", "v ", ""), ("co", "v 1 -", " -0"), ("co", "v 1 1 -", " "), ("co", "p aux sp co ", " 1"), ("co", "p ", ""),
+    ("p2p", "q ", ""), ("p2p", "q 1 ", " "), ("p2p", "q ", " x"), ("p2p", "p aux sp p2p ", " "), ("p2p", "p aux sp p2p 1\nq ", " 1 "),
+    ("p2p", "p aux sp p2p 1\nq 1 ", ""),
 ];
 
 /// Last lines below as many comments as a text may have.

@@ -1,4 +1,4 @@
-//! The independent program: document 01 and requests a to f of 02 a second time, from their words alone, to compare the crates with.
+//! The independent program: document 01 and requests a to g of 02 a second time, from their words alone, to compare the crates with.
 //! It is built by: rustc -O --edition 2021 -o target/independent tests/independent/main.rs
 
 mod boxes;
@@ -8,11 +8,13 @@ mod closures;
 mod columns;
 mod compare;
 mod console;
+mod days;
 mod drivers;
 mod files;
 mod hall;
 mod lent;
 mod limits;
+mod lists;
 mod marks;
 mod network;
 mod plans;
@@ -31,7 +33,7 @@ mod texts;
 mod walks;
 mod writing;
 
-use compare::Part;
+use compare::{Part, COUNT};
 use console::{converse, Console};
 use files::{joined, read_file, Folder};
 use refusals::Refusal;
@@ -45,16 +47,16 @@ independent selftest                    checks this program itself
 independent expect FILE                 the replies to a file of console commands
 independent console                     the replies to console commands as they are typed
 independent boxes                       what `boxes` prints for net.gr and net.co here
+independent journeys                    what `journeys` prints for these and day.p2p
 independent read gr FILE                a reader's reply, then the places it fills, row by row
 independent read co FILE N              the same for the coordinates of N nodes
 independent record SEED FOLDER          console commands to keep; their files are written into FOLDER
-independent compare [K/N] CONSOLE BOXES [SEED] [COUNT]
+independent compare [K/N] CONSOLE BOXES JOURNEYS [SEED] [COUNT]
                                         compares the programs these commands start, by COUNT small cases
                                         and others; with K/N only the Kth of N parts of the same cases
 ";
 
 const SEED: u64 = 1;
-const COUNT: usize = 20_000;
 
 fn main() -> ExitCode {
     let words: Vec<String> = std::env::args().skip(1).collect();
@@ -79,6 +81,7 @@ fn obey(words: &[&str]) -> Result<bool, Box<dyn std::error::Error>> {
         }
         ["console"] => converse(&mut Console::started_in(Folder::real("")), io::stdin().lock(), out)?,
         ["boxes"] => out.write_all(files::listing(Path::new("")).as_bytes())?,
+        ["journeys"] => out.write_all(files::journeys(Path::new("")).as_bytes())?,
         ["read", "gr", file] => out.write_all(told(gr_read(file)).as_bytes())?,
         ["read", "co", file, n] => out.write_all(told(co_read(file, n.parse()?)).as_bytes())?,
         ["record", seed, folder] => {
@@ -96,13 +99,16 @@ fn obey(words: &[&str]) -> Result<bool, Box<dyn std::error::Error>> {
 fn compared(words: &[&str]) -> Result<bool, Box<dyn std::error::Error>> {
     let part = words.first().and_then(|word| Part::named(word));
     let words = if part.is_some() { &words[1..] } else { words };
-    let (console, boxes, seed, count) = match *words {
-        [console, boxes] => (console, boxes, SEED, COUNT),
-        [console, boxes, seed] => (console, boxes, seed.parse()?, COUNT),
-        [console, boxes, seed, count] => (console, boxes, seed.parse()?, count.parse()?),
+    let [console, boxes, journeys, ref numbers @ ..] = *words else {
+        return Err(USAGE.into());
+    };
+    let (seed, count) = match *numbers {
+        [] => (SEED, COUNT),
+        [seed] => (seed.parse()?, COUNT),
+        [seed, count] => (seed.parse()?, count.parse()?),
         _ => return Err(USAGE.into()),
     };
-    Ok(compare::run(part.unwrap_or(Part::WHOLE), console, boxes, seed, count))
+    Ok(compare::run(part.unwrap_or(Part::WHOLE), [console, boxes, journeys], seed, count))
 }
 
 /// The lines of `read`: what the reader returns and the places it fills, or the refusal with its values.

@@ -17,6 +17,7 @@ pub fn plan(random: &mut Random, n: i64, m: i64) -> Lent {
     let mut lent = Lent { n, m, ..Lent::default() };
     lent.route = (0..n).map(|_| random.between(0, 99)).collect();
     lent.text = some_bytes(random, 5);
+    lent.answers = some_bytes(random, 3);
     draw_arcs(random, &mut lent);
     draw_weights(random, &mut lent);
     draw_closures(random, &mut lent);
@@ -198,6 +199,7 @@ pub fn spoil(random: &mut Random, lent: &mut Lent, asked: &mut Asked) {
             let needed = match row.name {
                 "tails" | "heads" | "weights" | "closed" => lent.m,
                 "boxes" => 4 * lent.m,
+                "answers" => QUERIES,
                 _ => lent.n,
             };
             let kept = (needed - random.between(1, 2)).max(0);

@@ -5,9 +5,11 @@ use crate::calls::{boxed, build, check, judge_network, search, update};
 use crate::cases::{small, Case};
 use crate::closures;
 use crate::columns;
+use crate::compare::COUNT;
 use crate::console::{Fault, FAULT_WORDS};
+use crate::days;
 use crate::drivers;
-use crate::files::{listing, rows_for_reading};
+use crate::files::{journeys, listing, rows_for_reading};
 use crate::hall;
 use crate::lent::Lent;
 use crate::marks;
@@ -18,7 +20,7 @@ use crate::record::recorded;
 use crate::refusals::{refused, Refusal};
 use crate::scratch::Scratch;
 use crate::sizes::{ARCS, COORDINATE, NODES, TEXT_BYTES, WEIGHT};
-use crate::talks::{exchanges, TALKS};
+use crate::talks::{exchanges, talk_files, TALKS};
 use crate::text::{fields, lines, number, read_co, read_gr, signed_number};
 use crate::texts::{co_text, gr_text};
 use crate::writing::{write_co, write_gr};
@@ -53,6 +55,7 @@ pub fn run() -> bool {
     columns::all_short_lines(&mut tally);
     drivers::greatest_excess(&mut tally);
     marks::all_small_boxes(&mut tally);
+    days::limits(&mut tally);
     let mut random = Random::new(1);
     for _ in 0..4_000 {
         claims(&mut tally, &mut random);
@@ -60,6 +63,7 @@ pub fn run() -> bool {
         columns::claims(&mut tally, &mut random);
         drivers::claims(&mut tally, &mut random);
         marks::claims(&mut tally, &mut random);
+        days::claims(&mut tally, &mut random);
     }
     coverage(&mut tally);
     println!("{} passed, {} failed", tally.passed, tally.failed);
@@ -88,9 +92,11 @@ fn arcs(lent: &Lent) -> Vec<Arc> {
 fn hall_plan(tally: &mut Tally) {
     let scratch = Scratch::new();
     let talk = hall::case();
-    let net = [("net.gr".to_string(), hall::GR.into()), ("net.co".to_string(), hall::CO.into())];
-    scratch.write(&[&talk.files[..], &net].concat());
+    let net = [("net.gr", hall::GR), ("net.co", hall::CO), ("day.p2p", hall::DAY)];
+    let net = net.map(|(name, text)| (name.to_string(), text.as_bytes().to_vec()));
+    scratch.write(&[&talk.files[..], &net, &talk_files()].concat());
     tally.expect(listing(&scratch.folder) == hall::LISTING, "the listing of the hall plan");
+    tally.expect(journeys(&scratch.folder) == hall::JOURNEYS, "the journeys of the hall plan");
 
     replied(tally, &scratch, &hall::TALK);
     for talk in TALKS {
@@ -136,6 +142,7 @@ fn one_tree_per_node(tally: &mut Tally) {
         route: vec![0; 4],
         text: vec![],
         closed: vec![0; 5],
+        answers: vec![],
     };
     tally.expect(boxed(&mut lent, 1, 4) == refused(12, &[2]), "from 1 the way to 4 is lost");
     tally.expect(boxed(&mut lent, 2, 4) == refused(12, &[2]), "from 2 the way to 4 is lost");
@@ -351,24 +358,33 @@ const WHY_REPLIES: [&str; 11] = [
     "refused 11 (", "refused 12 ",
 ];
 
+/// How the replies to `p2p` begin.
+#[rustfmt::skip]
+const P2P_REPLIES: [&str; 17] = [
+    "ok ", "refused 0 0 ", "refused 1 (", "refused 2 (", "refused 3 ", "refused 15 ", "refused 16 ", "refused 17 ",
+    "refused 4 ", "refused 5 0 ", "refused 5 1 ", "refused 5 2 ", "refused 6 ", "refused 8 ", "refused 14 ", "refused 9 ",
+    "refused 10 ",
+];
+
 /// The recorded cases have every refusal and every fault; the small cases have all but the longest line.
 fn coverage(tally: &mut Tally) {
     let scratch = Scratch::new();
     let mut random = Random::new(2);
-    let small: Vec<Case> = (0..1_500).map(|number| small(&mut random, &format!("small{number}"))).collect();
+    let small: Vec<Case> = (0..3_000).map(|number| small(&mut random, &format!("small{number}"))).collect();
+    // Of those that are compared there are so many, if they are as these are.
+    let mut at_least = |count: usize, what: &str, has: &dyn Fn(&Case) -> bool| {
+        let seen = small.iter().filter(|case| has(case)).count();
+        tally.expect(seen * COUNT >= count * small.len(), format!("{what} in {seen} cases"));
+    };
     for call in ["search", "boxed", "build", "check", "update", "why"] {
-        // One in ten of these, and so 2,000 of those that are compared.
-        let made = small.iter().filter(|case| on_closures(case, call)).count();
-        tally.expect(10 * made >= small.len(), format!("{call} where a track is closed in {made} cases"));
+        at_least(2_000, &format!("{call} where a track is closed"), &|case| on_closures(case, call));
     }
     for call in ["boxed", "check", "update"] {
-        let made = small.iter().filter(|case| on_marks(case, call)).count();
-        tally.expect(10 * made >= small.len(), format!("{call} where a box is the mark in {made} cases"));
+        at_least(2_000, &format!("{call} where a box is the mark"), &|case| on_marks(case, call));
     }
-    for (faulty, of) in [(1, 10), (2, 40)] {
-        let made = small.iter().filter(|case| columns::faulty_lines(case) >= faulty).count();
-        tally.expect(of * made >= small.len(), format!("{faulty} faulty lines in a text of {made} cases"));
-    }
+    at_least(2_000, "p2p", &|case| case.lines.iter().any(|line| line.starts_with(b"p2p ")));
+    at_least(2_000, "a faulty line", &|case| columns::faulty_lines(case) >= 1);
+    at_least(500, "two faulty lines", &|case| columns::faulty_lines(case) >= 2);
     for (name, case) in [("recorded", recorded(1)), ("small", Case::together(&small))] {
         scratch.write(&case.files);
         let output = String::from_utf8(scratch.demanded(&case.input())).expect("replies are plain text");
@@ -381,7 +397,7 @@ fn coverage(tally: &mut Tally) {
             tally.expect(replies.iter().any(|reply| reply.starts_with(&begin)), format!("{name}: {begin}"));
         }
         for (kind, refusal) in
-            ["gr", "co"].into_iter().flat_map(|kind| [3, 15, 16, 17].map(|slip| (kind, slip)))
+            ["gr", "co", "p2p"].into_iter().flat_map(|kind| [3, 15, 16, 17].map(|slip| (kind, slip)))
         {
             let (asks, begin) = (format!("{kind} "), format!("refused {refusal} "));
             let told = case.lines.iter().zip(output.lines());
@@ -389,10 +405,13 @@ fn coverage(tally: &mut Tally) {
                 told.filter(|(line, reply)| line.starts_with(asks.as_bytes()) && reply.starts_with(&begin));
             tally.expect(seen.count() > 0, format!("{name}: {kind} {begin}"));
         }
-        for begin in WHY_REPLIES {
+        let whys = WHY_REPLIES.map(|begin| ("why", begin));
+        let lists = P2P_REPLIES.map(|begin| ("p2p", begin));
+        for (call, begin) in whys.into_iter().chain(lists) {
             let mut told = case.lines.iter().zip(output.lines());
-            let seen = told.any(|(line, reply)| line.starts_with(b"why ") && reply.starts_with(begin));
-            tally.expect(seen, format!("{name}: why, {begin}"));
+            let seen =
+                told.any(|(line, reply)| fields(line)[0] == call.as_bytes() && reply.starts_with(begin));
+            tally.expect(seen, format!("{name}: {call}, {begin}"));
         }
         let unwritten = "refused 0 0 (the file cannot be written)";
         tally.expect(replies.contains(unwritten), format!("{name}: {unwritten}"));

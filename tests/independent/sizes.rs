@@ -1,10 +1,11 @@
-//! The limits of 01, 'Sizes', and the two bytes of request b.
+//! The limits of 01, 'Sizes', the two bytes of request b, and the queries of request g.
 
 pub const NODES: i64 = 512;
 pub const ARCS: i64 = 2_048;
 pub const WEIGHT: i64 = 1_000_000;
 pub const COORDINATE: i64 = 1_000_000;
 pub const TEXT_BYTES: usize = 65_536;
+pub const QUERIES: i64 = 256;
 
 pub fn is_node_count(n: i64) -> bool {
     (1..=NODES).contains(&n)
@@ -12,6 +13,10 @@ pub fn is_node_count(n: i64) -> bool {
 
 pub fn is_arc_count(m: i64) -> bool {
     (0..=ARCS).contains(&m)
+}
+
+pub fn is_query_count(k: i64) -> bool {
+    (0..=QUERIES).contains(&k)
 }
 
 pub fn is_node(node: i64, n: i64) -> bool {

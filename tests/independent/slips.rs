@@ -28,6 +28,9 @@ pub const GR: &Format = &[(b"p", &[Word(b"sp"), Number, Number]), (b"a", &[Numbe
 pub const CO: &Format =
     &[(b"p", &[Word(b"aux"), Word(b"sp"), Word(b"co"), Number]), (b"v", &[Number, Signed, Signed])];
 
+pub const P2P: &Format =
+    &[(b"p", &[Word(b"aux"), Word(b"sp"), Word(b"p2p"), Number]), (b"q", &[Number, Number])];
+
 /// Refusal 3, 15, 16 or 17 of a line, and the column.
 #[derive(Clone, Copy, Debug, PartialEq, Eq)]
 pub struct Slip {

@@ -6,7 +6,35 @@ pub fn exchanges(talk: &str) -> Vec<(&str, &str)> {
     said.map(|line| line.split_once(" => ").unwrap_or((line, "ok"))).collect()
 }
 
-pub const TALKS: [&str; 7] = [WORKED, SMALL, AROUND_ZERO, WRITTEN, CLOSED, WHY, MARKS];
+pub const TALKS: [&str; 8] = [WORKED, SMALL, AROUND_ZERO, WRITTEN, CLOSED, WHY, MARKS, DAY];
+
+/// The files that the talks name besides those of the hall plan.
+#[rustfmt::skip]
+const FILES: [(&str, &str); 19] = [
+    ("empty-day.p2p", "p aux sp p2p 0\n"),
+    ("twice.p2p", "p aux sp p2p 3\nc the same query twice, and no byte 10 at the end\nq 1 4\nq 1 4\nq 2 1"),
+    ("list-early.p2p", "q 1 4\np aux sp p2p 1\n"),
+    ("list-early-outside.p2p", "c\nq 0 9\n"),
+    ("list-second.p2p", "p aux sp p2p 1\nq 1 4\np aux sp p2p 1\n"),
+    ("list-second-large.p2p", "p aux sp p2p 0\np aux sp p2p 300\n"),
+    ("list-large.p2p", "p aux sp p2p 257\n"),
+    ("list-huge.p2p", "p aux sp p2p 4294967296\n"),
+    ("list-far.p2p", "p aux sp p2p 1\nq 1 5\n"),
+    ("list-zero.p2p", "p aux sp p2p 1\nq 0 1\n"),
+    ("list-beyond.p2p", "p aux sp p2p 1\nq 1 4\nq 4 1\n"),
+    ("list-beyond-outside.p2p", "p aux sp p2p 1\nq 1 4\nq 4 5\n"),
+    ("list-few.p2p", "p aux sp p2p 2\nq 1 4\n"),
+    ("list-comment.p2p", "c no p line\n"),
+    ("list-none.p2p", ""),
+    ("list-graph.p2p", "p sp 4 6\n"),
+    ("list-letter.p2p", "p aux sp p2p 1\na 1 4 3\n"),
+    ("list-missing-field.p2p", "p aux sp p2p 1\nq 1\n"),
+    ("list-empty-line.p2p", "p aux sp p2p 1\n\nq 1 4\n"),
+];
+
+pub fn talk_files() -> Vec<(String, Vec<u8>)> {
+    FILES.map(|(name, text)| (name.to_string(), text.into())).to_vec()
+}
 
 /// 'A hall plan worked through', lent by hand into rows of just the places needed.
 const WORKED: &str = "\
@@ -732,4 +760,101 @@ boxed 1 1 => refused 10 3 (the box of arc 3 is not well shaped)
 lend boxes 0 1 0 1 1 0 1 0 1 0 1 0
 boxed 1 1 => ok 0 0 1
 show boxes => boxes 0 1 0 1 1 0 1 0 1 0 1 0
+";
+
+/// A day's running list, by request g: on the hall plan, with closures and other boxes, and each refusal in its order.
+const DAY: &str = "\
+fresh
+gr hall.gr => ok 4 6
+co hall.co
+build
+p2p hall.p2p => ok 4 0 16
+show answers 6 => answers 6 3 7 0 0 0
+p2p twice.p2p => ok 3 0 19
+show answers 6 => answers 6 6 7 0 0 0
+p2p empty-day.p2p => ok 0 0 0
+show answers 6 => answers 6 6 7 0 0 0
+-- With arcs 1, 3 and 5 closed no way leads from 1. No route row is needed, and none is written.
+lend route
+lend closed 1 0 1 0 1 0
+p2p hall.p2p => ok 1 3 0
+show answers 6 => answers 4294967295 4294967295 4294967295 0 0 0
+p2p twice.p2p => ok 1 2 7
+show answers 6 => answers 4294967295 4294967295 7 0 0 0
+show route => route
+-- The boxes decide, checked or not: with the mark for arc 4 the way from 1 to 4 is arc 5, with marks for all there is none.
+lend closed 0 0 0 0 0 0
+lend boxes -5 10 0 20 -5 10 0 20 -5 10 5 20 1 0 1 0 -5 -5 20 20 0 10 0 5
+p2p hall.p2p => ok 4 0 19
+show answers 4 => answers 9 3 7 0
+lend boxes 1 0 1 0 1 0 1 0 1 0 1 0 1 0 1 0 1 0 1 0 1 0 1 0
+p2p hall.p2p => ok 1 3 0
+-- The text's refusals. Nothing changes.
+p2p list-early.p2p => refused 4 1 (line 1 is data before the p line or a second p line)
+p2p list-early-outside.p2p => refused 4 2 (line 2 is data before the p line or a second p line)
+p2p list-second.p2p => refused 4 3 (line 3 is data before the p line or a second p line)
+p2p list-second-large.p2p => refused 4 2 (line 2 is data before the p line or a second p line)
+p2p list-large.p2p => refused 5 1 (a number in line 1 is beyond its limits)
+p2p list-huge.p2p => refused 5 1 (a number in line 1 is beyond its limits)
+p2p list-far.p2p => refused 5 2 (a number in line 2 is beyond its limits)
+p2p list-zero.p2p => refused 5 2 (a number in line 2 is beyond its limits)
+p2p list-beyond.p2p => refused 6 3 (the counts disagree at line 3)
+p2p list-beyond-outside.p2p => refused 5 3 (a number in line 3 is beyond its limits)
+p2p list-few.p2p => refused 6 3 (the counts disagree at line 3)
+p2p list-comment.p2p => refused 6 2 (the counts disagree at line 2)
+p2p list-none.p2p => refused 6 1 (the counts disagree at line 1)
+p2p list-graph.p2p => refused 16 1 3 (line 1, column 3: the field is misspelt)
+p2p hall.gr => refused 16 2 3 (line 2, column 3: the field is misspelt)
+p2p hall.co => refused 16 1 10 (line 1, column 10: the field is misspelt)
+p2p list-letter.p2p => refused 15 2 1 (line 2, column 1: no line of this kind of file begins so)
+p2p list-missing-field.p2p => refused 17 2 4 (line 2, column 4: a field is missing or one too many)
+p2p list-empty-line.p2p => refused 3 2 1 (line 2 is empty)
+p2p missing.p2p => refused 0 0 (the file cannot be read)
+show answers 6 => answers 4294967295 4294967295 4294967295 0 0 0
+-- The order: 2 for the answers, 5 for n, the lines, 5 for m, 2 for the other rows, 8, 14, 9, 10.
+n 513
+m 2049
+lend answers 7 7 7
+lend tails 1 2 1 3 1
+lend weights 3 2 5 1 9 1000001
+lend closed 0 0 0 0 0 2
+lend x 0 10 10 1000001
+lend boxes -5 10 0 20 -5 10 0 20 -5 10 5 20 -5 10 0 20 1 0 1 0 1 0 1 1
+p2p list-few.p2p => refused 2 (a lent row is too short)
+show answers => answers 7 7 7
+fresh
+n 513
+m 2049
+lend tails 1 2 1 3 1
+lend heads 2 3 3 4 4 1
+lend weights 3 2 5 1 9 1000001
+lend closed 0 0 0 0 0 2
+lend x 0 10 10 1000001
+lend y 0 0 5 20
+lend boxes -5 10 0 20 -5 10 0 20 -5 10 5 20 -5 10 0 20 1 0 1 0 1 0 1 1
+p2p list-few.p2p => refused 5 0 (n, m or the new weight is beyond its limits)
+n 4
+p2p list-few.p2p => refused 6 3 (the counts disagree at line 3)
+p2p hall.p2p => refused 5 0 (n, m or the new weight is beyond its limits)
+m 6
+p2p list-few.p2p => refused 6 3 (the counts disagree at line 3)
+p2p hall.p2p => refused 2 (a lent row is too short)
+lend tails 1 2 1 3 1 4
+p2p list-few.p2p => refused 6 3 (the counts disagree at line 3)
+p2p hall.p2p => refused 8 6 (arc 6 has a bad node or weight)
+lend weights 3 2 5 1 9 4
+p2p hall.p2p => refused 14 6 (the closure of arc 6 is neither 0 nor 1)
+lend closed 0 0 0 0 0 0
+p2p hall.p2p => refused 9 4 (node 4 has a bad coordinate)
+lend x 0 10 10 -5
+p2p hall.p2p => refused 10 6 (the box of arc 6 is not well shaped)
+p2p list-zero.p2p => refused 5 2 (a number in line 2 is beyond its limits)
+p2p empty-day.p2p => refused 10 6 (the box of arc 6 is not well shaped)
+show answers 3 => answers 0 0 0
+lend boxes -5 10 0 20 -5 10 0 20 -5 10 5 20 -5 10 0 20 1 0 1 0 0 10 0 5
+p2p hall.p2p => ok 4 0 16
+show answers 6 => answers 6 3 7 0 0 0
+-- One word, the file's name.
+p2p => ? a wrong count of words for this command
+p2p hall.p2p 4 => ? a wrong count of words for this command
 ";

@@ -1,9 +1,9 @@
-//! The readers of .gr and .co: bytes split into lines, lines into fields.
+//! The readers of .gr, .co and, for request g, .p2p: bytes split into lines, lines into fields.
 
 use crate::lent::{fill, Lent};
 use crate::refusals::{refused, Refusal};
 use crate::sizes::*;
-use crate::slips::{slip, Format, CO, GR};
+use crate::slips::{slip, Format, CO, GR, P2P};
 
 /// Lines end in byte 10; the last may lack it, and a text ending in it has no further line.
 pub fn lines(text: &[u8]) -> Vec<&[u8]> {
@@ -73,6 +73,20 @@ fn co_line(line: &[u8]) -> Option<CoLine> {
     }
 }
 
+/// A line of .p2p that is not a comment.
+enum P2pLine {
+    Problem(i64),
+    Query(i64, i64),
+}
+
+fn p2p_line(line: &[u8]) -> Option<P2pLine> {
+    match fields(line)[..] {
+        [b"p", b"aux", b"sp", b"p2p", k] => Some(P2pLine::Problem(number(k)?)),
+        [b"q", s, t] => Some(P2pLine::Query(number(s)?, number(t)?)),
+        _ => None,
+    }
+}
+
 /// Whether a line has a form of .gr, a comment's included.
 pub fn has_gr_form(line: &[u8]) -> bool {
     is_comment(line) || gr_line(line).is_some()
@@ -81,6 +95,11 @@ pub fn has_gr_form(line: &[u8]) -> bool {
 /// Whether a line has a form of .co, a comment's included.
 pub fn has_co_form(line: &[u8]) -> bool {
     is_comment(line) || co_line(line).is_some()
+}
+
+/// Whether a line has a form of .p2p, a comment's included.
+pub fn has_p2p_form(line: &[u8]) -> bool {
+    is_comment(line) || p2p_line(line).is_some()
 }
 
 /// Refusal 3, 15, 16 or 17 of a line without a form, with its line and column.
@@ -197,4 +216,50 @@ pub fn read_co(text: &[u8], lent: &mut Lent) -> Result<(), Refusal> {
     fill(&mut lent.x, places.iter().map(|place| place.0));
     fill(&mut lent.y, places.iter().map(|place| place.1));
     Ok(())
+}
+
+/// Reads a .p2p text, for a network of n nodes: the sources and targets of its queries. Of the rows it looks at the one
+/// for the answers alone.
+pub fn read_p2p(text: &[u8], lent: &Lent) -> Result<Vec<(usize, usize)>, Refusal> {
+    judge_sizes(text, &[&lent.answers], QUERIES)?;
+    let n = lent.n;
+    if !is_node_count(n) {
+        return refused(5, &[0]);
+    }
+    let mut count = None;
+    let mut queries = Vec::new();
+    let mut at = 1;
+    for line in lines(text) {
+        if !is_comment(line) {
+            match p2p_line(line) {
+                None => return slipped(P2P, line, at),
+                Some(P2pLine::Problem(k)) => {
+                    if count.is_some() {
+                        return refused(4, &[at]);
+                    }
+                    if !is_query_count(k) {
+                        return refused(5, &[at]);
+                    }
+                    count = Some(k);
+                }
+                Some(P2pLine::Query(s, t)) => {
+                    let Some(k) = count else {
+                        return refused(4, &[at]);
+                    };
+                    if !is_node(s, n) || !is_node(t, n) {
+                        return refused(5, &[at]);
+                    }
+                    if queries.len() as i64 == k {
+                        return refused(6, &[at]);
+                    }
+                    queries.push((s as usize, t as usize));
+                }
+            }
+        }
+        at += 1;
+    }
+    if count != Some(queries.len() as i64) {
+        return refused(6, &[at]);
+    }
+    Ok(queries)
 }

@@ -1,4 +1,4 @@
-//! Texts of a plan, and what can be wrong with a text.
+//! Texts of a plan and of a running list, and what can be wrong with a text.
 
 use crate::lent::Lent;
 use crate::random::Random;
@@ -24,6 +24,20 @@ pub fn co_text(random: &mut Random, lent: &Lent) -> Vec<u8> {
     with_comments(random, text)
 }
 
+/// A .p2p text of these queries, said to be `count`.
+pub fn p2p_text(random: &mut Random, count: i64, queries: &[(i64, i64)]) -> Vec<u8> {
+    let mut text = vec![format!("p aux sp p2p {count}").into_bytes()];
+    text.extend(queries.iter().map(|(s, t)| format!("q {s} {t}").into_bytes()));
+    with_comments(random, text)
+}
+
+/// Queries between the nodes of a plan: none, a few, some of them twice, or about as many as there may be.
+pub fn some_queries(random: &mut Random, n: i64) -> Vec<(i64, i64)> {
+    let count =
+        if random.once_in(30) { random.pick(&[255, 256, 257]) } else { random.pick(&[0, 1, 2, 3, 5, 8]) };
+    (0..count).map(|_| (random.between(1, n), random.between(1, n))).collect()
+}
+
 fn with_comments(random: &mut Random, mut text: Vec<Vec<u8>>) -> Vec<u8> {
     for _ in 0..random.below(3) {
         let at = random.below(text.len() + 1);
@@ -42,24 +56,25 @@ fn ended(lines: &[Vec<u8>]) -> Vec<u8> {
 /// Bytes and fields that a reader may judge wrongly.
 const BYTES: &[u8] = b" \n\r\t-+0179acpvx\0\x7f\xff";
 #[rustfmt::skip]
-const FIELDS: [&[u8]; 22] = [
+const FIELDS: [&[u8]; 25] = [
     b"", b"-", b"-0", b"+1", b"07", b"00", b"-07", b"--1", b"1.0", b"0", b"1", b"-1",
     b"512", b"513", b"2048", b"2049", b"1000000", b"1000001", b"-1000000", b"-1000001",
-    b"4294967297", b"18446744073709551617",
+    b"4294967297", b"18446744073709551617", b"256", b"257", b"p2p",
 ];
 
 /// Lines that are refused in some places for more than one reason.
 #[rustfmt::skip]
-const LINES: [&[u8]; 20] = [
+const LINES: [&[u8]; 26] = [
     b"", b" ", b"c", b"cx", b"c\t", b"c\r", b"d 1 1 1",
     b"p sp 3 3", b"p sp 0 0", b"p sp 513 -1", b"p aux sp co 3", b"p aux sp co 513",
     b"a 1 1 1", b"a 0 9 1", b"a 1 1 1000001", b"a 1 1 -1",
     b"v 1 1 1", b"v 1 1 1000001", b"v 0 1 -1", b"v 1 1 -0",
+    b"p aux sp p2p 3", b"p aux sp p2p 257", b"q 1 1", b"q 0 1", b"q 1 513", b"q 1 -1",
 ];
 
 /// Letters for a line to begin with, and what hands add to a field.
-const LETTERS: [&[u8]; 13] =
-    [b"", b"a", b"v", b"p", b"c", b"A", b"V", b"aa", b"e", b"1", b"#", b"a\t", b"c\r"];
+const LETTERS: [&[u8]; 15] =
+    [b"", b"a", b"v", b"q", b"Q", b"p", b"c", b"A", b"V", b"aa", b"e", b"1", b"#", b"a\t", b"c\r"];
 const ADDED: [&[u8]; 10] = [b"", b"0", b"-", b"+", b",", b".", b"\t", b"\r", b"x", b"\xc3\xa9"];
 
 /// The text with one to three slips of the hand, in a line or in several.

@@ -1,2 +1,1 @@
-mod PrintsLaws
 pub mod Unique

@@ -10,14 +10,16 @@ use Rattle.files.specs.File.{Held}
 use Rattle.commands.specs.declared.Call.{Call}
 use Rattle.dimacs.proofs.Unique.{read-gr-unique, read-co-unique}
 use Rattle.dimacs.specs.declared.GrReply.{GrReply}
+use Rattle.daylist.proofs.Claims.{day-unique}
+use Rattle.daylist.proofs.PaperLaws as daylist
 use Rattle.reasons.proofs.PaperLaws as reasons
 use Rattle.reasons.proofs.SaysLaws.{why-unique}
 use Rattle.search.proofs.PaperLaws.{paper-injective}
 use Rattle.search.proofs.SaysLaws.{says-unique}
 use Rattle.boxwork.proofs.SaysLaws.{build-unique, check-unique, update-unique}
-use Rattle.replies.specs.Replies.{judgedLine, reasonLine}
+use Rattle.replies.specs.Replies.{judgedLine, dayLine, reasonLine}
 use Rattle.calls.specs.Calls.{Given, withBoxes, withRoute, Makes}
-use Rattle.calls.specs.Texts.{graphLine, graphSizes, placesLine, ReadsGraph, ReadsPlaces}
+use Rattle.calls.specs.Texts.{graphLine, graphSizes, placesLine, ReadsGraph, ReadsPlaces, RunsDay}
 use Rattle.calls.specs.declared.Sizes.{Sizes}
 
 -- ---- the calls
@@ -60,3 +62,13 @@ reads-places-unique (ReadsPlaces.file {bytes = bytes} r h p) (ReadsPlaces.file {
     let same : bytes ≡ bytes′ = cc in
     let e = read-co-unique _ _ _ _ r r′ _ _ _ _ (rw same at p) p′ in
     (ap placesLine (e .0), e .1, e .2)
+
+pub runs-day-unique : {held : Held} {sizes : Sizes} {R : Rows} {x y boxes : List ℤ} {answers left left′ reply reply′ : List ℕ}
+    → RunsDay held sizes R x y boxes answers reply left → RunsDay held sizes R x y boxes answers reply′ left′ → (reply ≡ reply′) × (left ≡ left′)
+runs-day-unique (RunsDay.no-file h) (RunsDay.no-file h′) = (refl, refl)
+runs-day-unique (RunsDay.no-file h) (RunsDay.file r h′ p) = let z : _≡_ {A = ℕ} 0 1 = cc in absurd (omega arith)
+runs-day-unique (RunsDay.file r h p) (RunsDay.no-file h′) = let z : _≡_ {A = ℕ} 0 1 = cc in absurd (omega arith)
+runs-day-unique (RunsDay.file {bytes = bytes} r h p) (RunsDay.file {bytes = bytes′} r′ h′ p′) =
+    let same : bytes ≡ bytes′ = cc in
+    let e = day-unique _ _ _ _ _ _ _ _ (rw same at p) p′ in
+    (ap dayLine (daylist.paper-injective r r′ (e .0)), e .1)

@@ -1,4 +1,4 @@
--- Files that are read into rows: `gr` and `co`.
+-- Files that are read into rows: `gr`, `co` and `p2p`.
 use Prim.Native.Nat.{ℕ}
 use mathlib.Core.Path.{_≡_}
 use mathlib.Core.List.{List}
@@ -11,7 +11,10 @@ use Rattle.dimacs.specs.declared.GrReply.{GrReply}
 use Rattle.dimacs.specs.declared.GrReply.the-variants as graph
 use Rattle.dimacs.specs.declared.CoReply.{CoReply}
 use Rattle.dimacs.specs.declared.CoReply.the-variants as places
-use Rattle.replies.specs.Replies.{okLine, sizesLine}
+use Rattle.daylist.specs.Says.{DaySays}
+use Rattle.daylist.specs.Paper.{paper}
+use Rattle.daylist.specs.declared.Day.{Day}
+use Rattle.replies.specs.Replies.{okLine, sizesLine, dayLine}
 use Rattle.calls.specs.declared.Sizes.{Sizes}
 
 -- n and m of a graph file that was read, or why it was refused
@@ -42,3 +45,11 @@ pub data ReadsPlaces (held : Held) (n : ℕ) (x y : List ℤ) : List ℕ → Lis
       → held ≡ text bytes
       → CoPromise bytes n x y r x′ y′
       → ReadsPlaces held n x y (placesLine r) x′ y′
+
+-- the file's queries are answered, in order, into the row of answers
+pub data RunsDay (held : Held) (sizes : Sizes) (R : Rows) (x y boxes : List ℤ) (answers : List ℕ) : List ℕ → List ℕ → Type 0 where
+  no-file : held ≡ unread → RunsDay held sizes R x y boxes answers noFileLine answers
+  file : {bytes : List ℕ} (r : Day) {answers′ : List ℕ}
+      → held ≡ text bytes
+      → DaySays bytes (sizes .n) (sizes .m) R x y boxes answers (paper r) answers′
+      → RunsDay held sizes R x y boxes answers (dayLine r) answers′

@@ -1,12 +1,12 @@
 -- Laws of names that stand in one text, as the code sees them from a position on.
-use mathlib.Core.Path.{_≡_, refl, sym, ap, _∙_}
-use mathlib.Core.List.{List, [], _∷_}
+use mathlib.Core.Path.{_≡_, sym, ap, _∙_}
+use mathlib.Core.List.{List}
 use mathlib.Core.Bool.{true, false}
-use Prim.Native.Nat.{ℕ, zero, suc, _+_, _-_, _<_, _≤_}
+use Prim.Native.Nat.{ℕ, zero, suc, _+_, _<_, _≤_}
 use native.Mathlib.Omega.{arith}
 use lib.ListN.{length, take, drop, getD, List·getD-eq-default}
 use Rattle.scan.specs.Pieces.{firstAt, sameBytes}
-use Rattle.commands.specs.Words.{wordsOf, word, placeIn}
+use Rattle.commands.specs.Words.{wordsOf, placeIn}
 use Rattle.commands.proofs.WordLaws.{words-turn, words-end}
 
 -- t is what is left of the names s, and e the place of its first space
@@ -19,19 +19,9 @@ module _ (s t : List ℕ) (at e : ℕ) (p : t ≡ drop at s) (q : e ≡ firstAt 
   unfolding placeIn
   place-on n w k b = rw (words-turn s t at e p q h, ← k, b)
 
-  pub name-here : (k : ℕ) → k ≡ 0 → word k (wordsOf (drop at s)) ≡ take e t
-  name-here k z = rw (words-turn s t at e p q h, z)
-
-  pub name-on : (k : ℕ) → (k ≡ 0 → ⊥) → word k (wordsOf (drop at s)) ≡ word (k - 1) (wordsOf (drop (at + e + 1) s))
-  name-on zero z = absurd (z refl)
-  name-on (suc k) z = let less : suc k - 1 ≡ k = omega arith in rw (words-turn s t at e p q h, less)
-
 pub place-end : (s n : List ℕ) (at : ℕ) → length s ≤ at → placeIn n (wordsOf (drop at s)) ≡ 0
 unfolding placeIn
 place-end s n at h = rw (words-end s at h)
-
-pub name-end : (s : List ℕ) (at k : ℕ) → length s ≤ at → word k (wordsOf (drop at s)) ≡ []
-name-end s at k h = rw (words-end s at h)
 
 -- the thing in the place that a name has
 pub named : {A : Type 0} (things : List A) (none : A) {k p n : ℕ} → k ≡ p → k ≡ n → getD things n none ≡ getD things p none

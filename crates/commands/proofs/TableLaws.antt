@@ -37,7 +37,7 @@ pub table-apart : allApart allRows ≡ true
 table-apart = refl
 
 -- the names, one by one
-pub row-names : rowNames ≡ bytes "tails" ∷ bytes "heads" ∷ bytes "weights" ∷ bytes "x" ∷ bytes "y" ∷ bytes "boxes" ∷ bytes "route" ∷ bytes "text" ∷ bytes "closed" ∷ []
+pub row-names : rowNames ≡ bytes "tails" ∷ bytes "heads" ∷ bytes "weights" ∷ bytes "x" ∷ bytes "y" ∷ bytes "boxes" ∷ bytes "route" ∷ bytes "text" ∷ bytes "closed" ∷ bytes "answers" ∷ []
 unfolding pieces opening bytes
 row-names = refl
 

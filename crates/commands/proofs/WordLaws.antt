@@ -10,7 +10,7 @@ use lib.ListN.{length, take, drop, getD, length-drop, drop-of-length-le}
 use lib.Seq.{drop-drop}
 use borrow.Author.Tests.{lt-ltb}
 use Rattle.scan.specs.Pieces.{opening, pieces, firstAt, firstField, fieldsOf}
-use Rattle.scan.proofs.PieceLaws.{at-cons, pieces-step}
+use Rattle.scan.proofs.PieceLaws.{at-cons, pieces-step, pieces-turn, pieces-end}
 use Rattle.commands.specs.Words.{wordsOf, word, afterWord, holdsByte, noneEmpty}
 
 -- ---- the first word, and the words after it
@@ -23,12 +23,10 @@ words-none (b ∷ t) e = absurd (omega arith)
 -- from a position on
 pub words-turn : (s t : List ℕ) (at e : ℕ) → t ≡ drop at s → e ≡ firstAt 32 t → at < length s
     → wordsOf (drop at s) ≡ take e t ∷ wordsOf (drop (at + e + 1) s)
-words-turn s t at e p q h =
-    rw (p, pieces-step 32 (drop at s) e (q ∙ ap (firstAt 32) p) (simp length-drop (omega arith)), drop-drop (e + 1) at s, ← add-assoc at e 1)
+words-turn s t at e p q h = pieces-turn 32 s t at e p q h
 
 pub words-end : (s : List ℕ) (at : ℕ) → length s ≤ at → wordsOf (drop at s) ≡ []
-unfolding pieces
-words-end s at h = rw (drop-of-length-le s h)
+words-end s at h = pieces-end 32 s at h
 
 pub word-first : (s : List ℕ) → word 0 (wordsOf s) ≡ firstField s
 unfolding pieces firstAt

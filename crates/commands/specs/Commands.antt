@@ -16,7 +16,7 @@ use Rattle.commands.specs.declared.Call.the-variants as call
 use Rattle.commands.specs.declared.Shown.the-variants.{All, First}
 use Rattle.commands.specs.declared.Request.the-variants as request
 use Rattle.commands.specs.declared.Command.{Command}
-use Rattle.commands.specs.declared.Command.the-variants.{Faulty, Lend, Fresh, Save, Other}
+use Rattle.commands.specs.declared.Command.the-variants.{Faulty, Lend, Fresh, Read, Save, Other}
 use Rattle.commands.specs.declared.arguments.Pair.{Pair}
 use Rattle.commands.specs.declared.arguments.Pair.the-variants as pair
 use Rattle.commands.specs.declared.faults.Judged.{Judged}
@@ -117,8 +117,7 @@ asked verb.N words = withNumber (number (word 0 words)) (λ v. Other (request.Se
 asked verb.M words = withNumber (number (word 0 words)) (λ v. Other (request.SetM v))
 asked verb.Lend words = withRow (rowOf (word 0 words)) (lendAsked (drop 1 words))
 asked verb.Show words = withRow (rowOf (word 0 words)) (showAsked (drop 1 words))
-asked verb.Gr words = Other request.ReadGr
-asked verb.Co words = Other request.ReadCo
+asked (verb.Read reading) words = Read reading
 asked verb.Build words = Other (request.Call call.Build)
 asked verb.Check words = Other (request.Call call.Check)
 asked verb.Update words = withPair (pairIn words) (λ arc weight. withNumber (byte (word 2 words)) (λ b. Other (request.Call (call.Update arc weight b))))

@@ -45,12 +45,13 @@ stretchOf row.Boxes = stretchFrom Numbers 5 2048 16384
 stretchOf row.Route = stretchFrom Counts 6 12288 1024
 stretchOf row.Text = stretchFrom Bytes 7 0 40960
 stretchOf row.Closed = stretchFrom Bytes 8 40960 4096
+stretchOf row.Answers = stretchFrom Counts 9 13312 512
 
 abbrev pub allRows : List Row
-allRows = row.Tails ∷ row.Heads ∷ row.Weights ∷ row.X ∷ row.Y ∷ row.Boxes ∷ row.Route ∷ row.Text ∷ row.Closed ∷ []
+allRows = row.Tails ∷ row.Heads ∷ row.Weights ∷ row.X ∷ row.Y ∷ row.Boxes ∷ row.Route ∷ row.Text ∷ row.Closed ∷ row.Answers ∷ []
 
 abbrev pub rowNames : List (List ℕ)
-rowNames = wordsOf (bytes "tails heads weights x y boxes route text closed")
+rowNames = wordsOf (bytes "tails heads weights x y boxes route text closed answers")
 
 -- ----
 

@@ -10,10 +10,11 @@ use Rattle.commands.specs.declared.verbs.Format.{Format}
 use Rattle.commands.specs.declared.verbs.Format.the-variants.{Gr, Co}
 use Rattle.commands.specs.declared.verbs.FormatName.{FormatName}
 use Rattle.commands.specs.declared.verbs.FormatName.the-variants.{Known, Unknown}
+use Rattle.commands.specs.declared.verbs.Reading.the-variants as reading
 use Rattle.commands.specs.declared.verbs.Verb.{Verb}
 use Rattle.commands.specs.declared.verbs.Verb.the-variants as verb
 
--- the kinds of files in the order of their names
+-- the kinds of files that are written, in the order of their names
 abbrev pub allFormats : List FormatName
 allFormats = Known Gr ∷ Known Co ∷ []
 
@@ -27,7 +28,7 @@ with command (Known format) = command format
 with command Unknown = verb.NoVerb
 
 abbrev pub verbNames : List (List ℕ)
-verbNames = wordsOf (bytes "n m lend show gr co build check update search boxed why write save fresh help")
+verbNames = wordsOf (bytes "n m lend show gr co p2p build check update search boxed why write save fresh help")
 
 -- the commands in the order of their names, where the second word names such a kind of file
 abbrev pub allVerbs : FormatName → List Verb
@@ -36,8 +37,9 @@ allVerbs format =
     ∷ verb.M
     ∷ verb.Lend
     ∷ verb.Show
-    ∷ verb.Gr
-    ∷ verb.Co
+    ∷ verb.Read reading.Gr
+    ∷ verb.Read reading.Co
+    ∷ verb.Read reading.P2p
     ∷ verb.Build
     ∷ verb.Check
     ∷ verb.Update
@@ -60,8 +62,7 @@ takesWords verb.N words = eqb words 2
 takesWords verb.M words = eqb words 2
 takesWords verb.Lend words = leb 2 words
 takesWords verb.Show words = eqb words 2 || eqb words 3
-takesWords verb.Gr words = eqb words 2
-takesWords verb.Co words = eqb words 2
+takesWords (verb.Read reading) words = eqb words 2
 takesWords verb.Build words = eqb words 1
 takesWords verb.Check words = eqb words 1
 takesWords verb.Update words = eqb words 4

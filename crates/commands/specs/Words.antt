@@ -1,11 +1,11 @@
 -- The words of a line.
-use Prim.Native.Nat.{ℕ, suc, _+_}
+use Prim.Native.Nat.{ℕ, suc}
 use Prim.Native.Char.{code}
 use mathlib.Core.List.{List, [], _∷_}
 use mathlib.Core.Bool.{Bool, true, false, cond, _||_}
 use lib.Dec.{eqb}
-use lib.ListN.{drop, getD}
-use Rattle.scan.specs.Pieces.{pieces, firstAt, sameBytes}
+use lib.ListN.{getD}
+use Rattle.scan.specs.Pieces.{pieces, afterFirst, sameBytes}
 
 -- Words are divided by single spaces; an empty text has none. Where no field is empty, they are the fields.
 abbrev pub wordsOf : List ℕ → List (List ℕ)
@@ -17,7 +17,7 @@ word i words = getD words i []
 
 -- what stands after the first space, or nothing
 abbrev pub afterWord : List ℕ → List ℕ
-afterWord s = drop (firstAt (code " ") s + 1) s
+afterWord s = afterFirst (code " ") s
 
 -- whether a byte stands in a text
 unfoldable pub holdsByte : ℕ → List ℕ → Bool

@@ -14,6 +14,7 @@ use crate::faults::Judged;
 use crate::faults::judge_line;
 use crate::rows::Row;
 use crate::verbs::Format;
+use crate::verbs::Reading;
 use crate::verbs::takes;
 use crate::verbs::verb_of;
 use crate::words::after_word;
@@ -51,23 +52,22 @@ pub enum Shown {
     First(u32),
 }
 
-// What a line asks for that leaves the lent places as they are. The name of a file is read from the line again.
+// What a line asks for that leaves the lent places as they are, and names no file.
 pub enum Request {
     SetN(u32),
     SetM(u32),
     Show(Row, Shown),
-    ReadGr,
-    ReadCo,
     Write(Format),
     Call(Call),
     Help,
 }
 
-// What a line asks for. The values of `lend`, and the name of the file of `save`, are read from the line again.
+// What a line asks for. The values of `lend`, and the name of a file, are read from the line again.
 pub enum Command {
     Faulty(Fault),
     Lend(Row),
     Fresh,
+    Read(Reading),
     Save(Format),
     Other(Request),
 }

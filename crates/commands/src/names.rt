@@ -1,8 +1,6 @@
 // Names that stand in one text, with a space between two.
 ghost use mathlib.Core.Path.{_≡_};
-ghost use Prim.Native.Nat.{_≤_};
-ghost use lib.ListN.{length};
-ghost use Rattle.commands.specs.Words.{wordsOf, word, placeIn};
+ghost use Rattle.commands.specs.Words.{wordsOf, placeIn};
 use scan::pieces::first_at;
 use scan::pieces::front;
 use scan::pieces::rest;
@@ -24,23 +22,4 @@ pub fn place_of(name: &[u8], names: &[u8]) -> usize
         at = at + e + 1;
     }
     place
-}
-
-// The name in a place, from 0; nothing where there are fewer.
-pub fn name_at(names: &[u8], place: usize) -> &[u8]
-    ensures { λ r. ⌜ now r ≡ word place (wordsOf (now (names .entry))) ⌝ }
-    ensures { λ r. ⌜ length (now r) ≤ length (now (names .entry)) ⌝ }
-{
-    let mut k = place;
-    let mut at = 0;
-    while at < names.len() {
-        let left = rest(names, at);
-        let e = first_at(left, b' ');
-        if k == 0 {
-            return front(left, e);
-        }
-        k -= 1;
-        at = at + e + 1;
-    }
-    rest(names, names.len())
 }

@@ -13,6 +13,7 @@ pub enum Row {
     Route,
     Text,
     Closed,
+    Answers,
 }
 
 pub enum RowName {
@@ -71,12 +72,13 @@ impl Row {
             Row::Route => stretch_from(Kind::Counts, 6, 12288, 1024),
             Row::Text => stretch_from(Kind::Bytes, 7, 0, 40960),
             Row::Closed => stretch_from(Kind::Bytes, 8, 40960, 4096),
+            Row::Answers => stretch_from(Kind::Counts, 9, 13312, 512),
         }
     }
 }
 
 // The names of the rows, in the order of their numbers.
-pub const ROW_NAMES: [u8; 47] = *b"tails heads weights x y boxes route text closed";
+pub const ROW_NAMES: [u8; 55] = *b"tails heads weights x y boxes route text closed answers";
 
 // The row that a word names.
 pub fn row_of(word: &[u8]) -> RowName
@@ -92,6 +94,7 @@ pub fn row_of(word: &[u8]) -> RowName
         6 => RowName::Known(Row::Route),
         7 => RowName::Known(Row::Text),
         8 => RowName::Known(Row::Closed),
+        9 => RowName::Known(Row::Answers),
         _ => RowName::Unknown,
     }
 }

@@ -3,7 +3,14 @@ ghost use mathlib.Core.Path.{_≡_};
 ghost use Rattle.commands.specs.Verbs.{formatOf, verbOf, takesWords};
 use crate::names::place_of;
 
-// The kinds of files.
+// What is read from a file: a graph, the places of its nodes, a day's list.
+pub enum Reading {
+    Gr,
+    Co,
+    P2p,
+}
+
+// The kinds of files that are written.
 pub enum Format {
     Gr,
     Co,
@@ -31,8 +38,7 @@ pub enum Verb {
     M,
     Lend,
     Show,
-    Gr,
-    Co,
+    Read(Reading),
     Build,
     Check,
     Update,
@@ -53,30 +59,31 @@ pub fn verb_of(first: &[u8], second: &[u8]) -> Verb
     let format = format_of(second);
     match place_of(
         first,
-        b"n m lend show gr co build check update search boxed why write save fresh help",
+        b"n m lend show gr co p2p build check update search boxed why write save fresh help",
     ) {
         0 => Verb::N,
         1 => Verb::M,
         2 => Verb::Lend,
         3 => Verb::Show,
-        4 => Verb::Gr,
-        5 => Verb::Co,
-        6 => Verb::Build,
-        7 => Verb::Check,
-        8 => Verb::Update,
-        9 => Verb::Search,
-        10 => Verb::Boxed,
-        11 => Verb::Why,
-        12 => match format {
+        4 => Verb::Read(Reading::Gr),
+        5 => Verb::Read(Reading::Co),
+        6 => Verb::Read(Reading::P2p),
+        7 => Verb::Build,
+        8 => Verb::Check,
+        9 => Verb::Update,
+        10 => Verb::Search,
+        11 => Verb::Boxed,
+        12 => Verb::Why,
+        13 => match format {
             FormatName::Known(f) => Verb::Write(f),
             FormatName::Unknown => Verb::NoVerb,
         },
-        13 => match format {
+        14 => match format {
             FormatName::Known(f) => Verb::Save(f),
             FormatName::Unknown => Verb::NoVerb,
         },
-        14 => Verb::Fresh,
-        15 => Verb::Help,
+        15 => Verb::Fresh,
+        16 => Verb::Help,
         _ => Verb::NoVerb,
     }
 }
@@ -90,8 +97,7 @@ pub fn takes(verb: Verb, words: usize) -> bool
         Verb::M => words == 2,
         Verb::Lend => 2 <= words,
         Verb::Show => (words == 2) | (words == 3),
-        Verb::Gr => words == 2,
-        Verb::Co => words == 2,
+        Verb::Read(_reading) => words == 2,
         Verb::Build => words == 1,
         Verb::Check => words == 1,
         Verb::Update => words == 4,

@@ -3,6 +3,7 @@ ghost use mathlib.Core.Path.{_≡_};
 ghost use lib.ListN.{length};
 ghost use Rattle.scan.specs.Pieces.{firstField, fieldsOf};
 ghost use Rattle.commands.specs.Words.{wordsOf, afterWord, holdsByte, noneEmpty};
+use scan::pieces::after_first;
 use scan::pieces::first_at;
 use scan::pieces::front;
 use scan::pieces::rest;
@@ -18,11 +19,7 @@ pub fn first_word(s: &[u8]) -> &[u8]
 pub fn after_word(s: &[u8]) -> &[u8]
     ensures { λ r. ⌜ now r ≡ afterWord (now (s .entry)) ⌝ }
 {
-    let e = first_at(s, b' ');
-    if e < s.len() {
-        return rest(s, e + 1);
-    }
-    rest(s, s.len())
+    after_first(s, b' ')
 }
 
 // Whether a byte stands in s.

@@ -8,16 +8,16 @@ use Rattle.files.specs.File.{Held, unread}
 use Rattle.pages.specs.Page.{Puts, Replied}
 use Rattle.commands.specs.Words.{wordsOf}
 use Rattle.commands.specs.declared.Command.{Command}
-use Rattle.commands.specs.declared.Command.the-variants.{Lend, Fresh, Save, Other}
-use Rattle.commands.specs.declared.Request.{Request}
+use Rattle.commands.specs.declared.Command.the-variants.{Lend, Fresh, Read, Save}
 use Rattle.commands.specs.declared.rows.Row.{Row}
 use Rattle.commands.specs.declared.verbs.Format.{Format}
+use Rattle.commands.specs.declared.verbs.Reading.{Reading}
 use Rattle.lending.specs.Stores.{Stores, cleared, lentIn}
 use Rattle.lending.specs.Lending.{storedIn}
 use Rattle.lending.specs.declared.rows.Lent.{Lent}
 use Rattle.replies.specs.Replies.{okLine}
 use Rattle.desk.specs.Desk.{Desk}
-use Rattle.desk.specs.Requests.{Obeyed, SavesDesk}
+use Rattle.desk.specs.Requests.{HasRead, SavesDesk}
 use Rattle.console.specs.Input.{askedBy}
 use Rattle.console.specs.State.{fresh}
 use Rattle.console.specs.Answers.{Answers, Answered, isOver}
@@ -49,9 +49,9 @@ module _ {line words : List ℕ} {bytes : ℕ} {ended : Bool} {asks case : Comma
       → Answered line bytes ended before page end after page′
   answered-by {reply} on p q e says puts = answered-as on p q e (record { held = unread; reply = reply; says = says; puts = puts })
 
-pub obeyed-as : {words : List ℕ} {asks : Request} {before after : Desk} {page page′ : List ℕ} {end : ℕ} → Obeyed before asks after page end page′
-    → Replied (λ held reply. Answers held words before (Other asks) reply after) page end page′
-obeyed-as r = record { held = r .held; reply = r .reply; says = Answers.meets (r .says); puts = r .puts }
+pub read-as : {words : List ℕ} {reading : Reading} {before after : Desk} {page page′ : List ℕ} {end : ℕ} → HasRead before reading after page end page′
+    → Replied (λ held reply. Answers held words before (Read reading) reply after) page end page′
+read-as r = record { held = r .held; reply = r .reply; says = Answers.reads (r .says); puts = r .puts }
 
 pub saved-as : {words : List ℕ} {format : Format} {d : Desk} {page page′ : List ℕ} {end : ℕ} → Replied (λ (held : Held) reply. SavesDesk held d format reply) page end page′
     → Replied (λ held reply. Answers held words d (Save format) reply d) page end page′

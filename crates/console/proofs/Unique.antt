@@ -9,7 +9,7 @@ use Rattle.pages.specs.Page.{written}
 use Rattle.commands.specs.declared.Command.{Command}
 use Rattle.desk.specs.Desk.{Desk}
 use Rattle.calls.proofs.WritingLaws.{saves-unique}
-use Rattle.desk.proofs.Unique.{meets-unique, meets-any}
+use Rattle.desk.proofs.Unique.{meets-unique, reads-unique}
 use Rattle.console.specs.Input.{askedBy}
 use Rattle.console.specs.Answers.{Answers, Answered, NamesNoFile}
 
@@ -18,6 +18,7 @@ pub answers-unique : {held : Held} {line : List ℕ} {before : Desk} {asks : Com
 answers-unique Answers.faulty Answers.faulty = (refl, refl)
 answers-unique Answers.lends Answers.lends = (refl, refl)
 answers-unique Answers.fresh Answers.fresh = (refl, refl)
+answers-unique (Answers.reads r) (Answers.reads r′) = reads-unique r r′
 answers-unique (Answers.saves s) (Answers.saves s′) = (saves-unique s s′, refl)
 answers-unique (Answers.meets m) (Answers.meets m′) = meets-unique m m′
 
@@ -27,8 +28,9 @@ pub answers-any : {held held′ : Held} {line : List ℕ} {before : Desk} {asks 
 answers-any n Answers.faulty = Answers.faulty
 answers-any n Answers.lends = Answers.lends
 answers-any n Answers.fresh = Answers.fresh
+answers-any n (Answers.reads r) = absurd n
 answers-any n (Answers.saves s) = absurd n
-answers-any n (Answers.meets m) = Answers.meets (meets-any n m)
+answers-any n (Answers.meets m) = Answers.meets m
 
 -- a line that names no file has one reply, and leaves one content of everything
 pub answered-unique : {line : List ℕ} {bytes : ℕ} {ended : Bool} {before after after′ : Desk} {page one two : List ℕ} {end end′ : ℕ} → NamesNoFile (askedBy line bytes)

@@ -17,7 +17,8 @@ use pages::PAGE;
 use plans::written::save;
 use replies::words::put_fault;
 use replies::words::put_ok;
-use requests::obey;
+use requests::meet;
+use requests::read;
 use scan::pieces::front;
 
 // What a line of so many bytes asks for.
@@ -100,8 +101,17 @@ pub fn answer(
                 end: save(page, words, format, sizes, lent, counts, numbers, bytes),
             };
         }
+        Command::Read(reading) => {
+            let done = read(page, words, reading, sizes, lent, counts, numbers, bytes);
+            let next = done.sizes;
+            return State {
+                lent,
+                sizes: next,
+                end: done.end,
+            };
+        }
         Command::Other(request) => {
-            let done = obey(page, words, request, sizes, lent, counts, numbers, bytes);
+            let done = meet(page, request, sizes, lent, counts, numbers, bytes);
             let next = done.sizes;
             return State {
                 lent,

@@ -1,7 +1,6 @@
 // A row that a request writes is copied for it, and what it leaves is put back.
 ghost use Prim.Native.Nat.{_≤_};
 ghost use mathlib.Core.Path.{_≡_};
-ghost use Rattle.files.specs.File.{unread};
 ghost use Rattle.commands.specs.Rows.{stretchOf};
 ghost use Rattle.commands.specs.declared.rows.Row.the-variants.{Weights, Closed, Boxes, Route};
 ghost use Rattle.commands.specs.declared.Request.the-variants as request;
@@ -44,7 +43,7 @@ fn work_in(
     boxes: &mut [i32],
 ) -> usize
     requires { ⌜ Full (stores (now counts) (now numbers) (now bytes)) × (now weights ≡ partAt lent (stretchOf Weights) (now counts)) × (now closures ≡ partAt lent (stretchOf Closed) (now bytes)) × (now boxes ≡ partAt lent (stretchOf Boxes) (now numbers)) ⌝ }
-    ensures { λ r. let before = desk sizes lent (now (counts .entry)) (now (numbers .entry)) (now (bytes .entry)) in let after = desk sizes lent (now (counts .exit)) (now (numbers .exit)) (now (bytes .exit)) in ⌜ Met unread before (request.Call (workCall work)) after (now (page .entry)) r (now (page .exit)) ⌝ }
+    ensures { λ r. let before = desk sizes lent (now (counts .entry)) (now (numbers .entry)) (now (bytes .entry)) in let after = desk sizes lent (now (counts .exit)) (now (numbers .exit)) (now (bytes .exit)) in ⌜ Met before (request.Call (workCall work)) after (now (page .entry)) r (now (page .exit)) ⌝ }
     ensures { λ r. ⌜ r ≤ 368640 ⌝ }
 {
     let tails = counts_of(counts, lent, Row::Tails);
@@ -79,7 +78,7 @@ fn work_on(
     bytes: &mut [u8],
 ) -> usize
     requires { ⌜ Full (stores (now counts) (now numbers) (now bytes)) ⌝ }
-    ensures { λ r. let before = desk sizes lent (now (counts .entry)) (now (numbers .entry)) (now (bytes .entry)) in let after = desk sizes lent (now (counts .exit)) (now (numbers .exit)) (now (bytes .exit)) in ⌜ Met unread before (request.Call (workCall work)) after (now (page .entry)) r (now (page .exit)) ⌝ }
+    ensures { λ r. let before = desk sizes lent (now (counts .entry)) (now (numbers .entry)) (now (bytes .entry)) in let after = desk sizes lent (now (counts .exit)) (now (numbers .exit)) (now (bytes .exit)) in ⌜ Met before (request.Call (workCall work)) after (now (page .entry)) r (now (page .exit)) ⌝ }
     ensures { λ r. ⌜ r ≤ 368640 ⌝ }
 {
     let mut weights = [0u32; 4096];
@@ -114,7 +113,7 @@ fn trip_in(
     route: &mut [u32],
 ) -> usize
     requires { ⌜ Full (stores (now counts) (now numbers) (now bytes)) × (now route ≡ partAt lent (stretchOf Route) (now counts)) ⌝ }
-    ensures { λ r. let before = desk sizes lent (now (counts .entry)) (now (numbers .entry)) (now (bytes .entry)) in let after = desk sizes lent (now (counts .exit)) (now (numbers .entry)) (now (bytes .entry)) in ⌜ Met unread before (request.Call (tripCall trip)) after (now (page .entry)) r (now (page .exit)) ⌝ }
+    ensures { λ r. let before = desk sizes lent (now (counts .entry)) (now (numbers .entry)) (now (bytes .entry)) in let after = desk sizes lent (now (counts .exit)) (now (numbers .entry)) (now (bytes .entry)) in ⌜ Met before (request.Call (tripCall trip)) after (now (page .entry)) r (now (page .exit)) ⌝ }
     ensures { λ r. ⌜ r ≤ 368640 ⌝ }
 {
     let tails = counts_of(counts, lent, Row::Tails);
@@ -151,7 +150,7 @@ fn trip_on(
     bytes: &[u8],
 ) -> usize
     requires { ⌜ Full (stores (now counts) (now numbers) (now bytes)) ⌝ }
-    ensures { λ r. let before = desk sizes lent (now (counts .entry)) (now (numbers .entry)) (now (bytes .entry)) in let after = desk sizes lent (now (counts .exit)) (now (numbers .entry)) (now (bytes .entry)) in ⌜ Met unread before (request.Call (tripCall trip)) after (now (page .entry)) r (now (page .exit)) ⌝ }
+    ensures { λ r. let before = desk sizes lent (now (counts .entry)) (now (numbers .entry)) (now (bytes .entry)) in let after = desk sizes lent (now (counts .exit)) (now (numbers .entry)) (now (bytes .entry)) in ⌜ Met before (request.Call (tripCall trip)) after (now (page .entry)) r (now (page .exit)) ⌝ }
     ensures { λ r. ⌜ r ≤ 368640 ⌝ }
 {
     let mut route = [0u32; 1024];
@@ -178,7 +177,7 @@ pub fn call_on(
     bytes: &mut [u8],
 ) -> usize
     requires { ⌜ Full (stores (now counts) (now numbers) (now bytes)) ⌝ }
-    ensures { λ r. let before = desk sizes lent (now (counts .entry)) (now (numbers .entry)) (now (bytes .entry)) in let after = desk sizes lent (now (counts .exit)) (now (numbers .exit)) (now (bytes .exit)) in ⌜ Met unread before (request.Call call) after (now (page .entry)) r (now (page .exit)) ⌝ }
+    ensures { λ r. let before = desk sizes lent (now (counts .entry)) (now (numbers .entry)) (now (bytes .entry)) in let after = desk sizes lent (now (counts .exit)) (now (numbers .exit)) (now (bytes .exit)) in ⌜ Met before (request.Call call) after (now (page .entry)) r (now (page .exit)) ⌝ }
     ensures { λ r. ⌜ r ≤ 368640 ⌝ }
 {
     let task = task_of(call);

@@ -37,7 +37,7 @@ module _ (d : Desk) {format : Format} {page page′ : List ℕ} {end : ℕ} wher
   -- the lent part of the row `text`, with what is left in it, is put back
   pub written-as : (s : Stretch) → s ≡ stretchOf Text → Lies s → (k : ℕ) → k ≡ lentAt (d .lent) s → {r : WriteReply} {new : List ℕ}
       → DeskWrites d format (take (s .start + k - s .start) (drop (s .start) (d .all .bytes))) r new → length new ≡ k → Puts (writtenLine r) 0 page end page′
-      → Met unread d (request.Write format) (desk (d .sizes) (d .lent) (d .all .counts) (d .all .numbers) (take (s .start) (d .all .bytes) ++ (new ++ drop (s .start + k - s .start) (drop (s .start) (d .all .bytes))))) page end page′
+      → Met d (request.Write format) (desk (d .sizes) (d .lent) (d .all .counts) (d .all .numbers) (take (s .start) (d .all .bytes) ++ (new ++ drop (s .start + k - s .start) (drop (s .start) (d .all .bytes))))) page end page′
   written-as s e l k q {r} {new} w n puts =
       let old = part-is s Text e l (d .lent) k (d .all .bytes) q in
       let back = part-put-is s Text e l k (d .all .bytes) new n in

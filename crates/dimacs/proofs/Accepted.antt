@@ -14,7 +14,7 @@ use Rattle.rules.proofs.AndLaws.{and-true}
 use Rattle.rules.proofs.JudgingLaws.{both-fine, passed}
 use Rattle.rules.specs.Paper.{Reply, refusal, accepted}
 use Rattle.rules.proofs.PaperLaws.{refusal-nonzero}
-use Rattle.rules.specs.Limits.{mostNodes, mostArcs, longestText}
+use Rattle.rules.specs.Limits.{mostNodes, mostArcs, mostQueries, longestText}
 use Rattle.rules.specs.Judging.{orElse, passes}
 use Rattle.rules.specs.declared.Refusal.{Refusal}
 use Rattle.rules.specs.declared.Refusal.the-variants.{TextTooLong, RowTooShort, BeyondLimits}
@@ -23,15 +23,17 @@ use Rattle.scan.specs.Fields.{none}
 use Rattle.scan.specs.declared.holding.Numbers.{Numbers}
 use Rattle.dimacs.specs.Gr.{grRules}
 use Rattle.dimacs.specs.Co.{coRules}
+use Rattle.dimacs.specs.P2p.{p2pRules}
 use Rattle.dimacs.specs.Texts.{Outcome, read, refused, readText}
 use Rattle.dimacs.specs.Rules.{columnOf, axisOf}
 use Rattle.dimacs.specs.Rows.{row, openRow}
-use Rattle.dimacs.specs.Reading.{readGr, grSays, readCo, coSays}
-use Rattle.dimacs.specs.Promise.{GrPromise, CoPromise}
-use Rattle.dimacs.specs.Accepted.{GrLimits, GrOpen, CoLimits}
+use Rattle.dimacs.specs.Reading.{readGr, grSays, readCo, coSays, readP2p, p2pSays}
+use Rattle.dimacs.specs.Promise.{GrPromise, CoPromise, P2pPromise}
+use Rattle.dimacs.specs.Accepted.{GrLimits, GrOpen, CoLimits, P2pLimits}
 use Rattle.dimacs.specs.declared.GrReply.the-variants.{Read as GrRead}
 use Rattle.dimacs.specs.declared.CoReply.the-variants.{Read as CoRead}
-use Rattle.dimacs.specs.declared.format.Format.the-variants.{Graph, Coordinates}
+use Rattle.dimacs.specs.declared.P2pReply.the-variants.{Read as P2pRead}
+use Rattle.dimacs.specs.declared.format.Format.the-variants.{Graph, Coordinates, Queries}
 use Rattle.dimacs.specs.declared.rows.Column.the-variants.{First, Second, Third}
 use Rattle.dimacs.specs.declared.rows.Axis.the-variants.{X, Y}
 use Rattle.dimacs.proofs.Fairness.{Inside, inside}
@@ -60,6 +62,10 @@ unfolding coRules
 co-count n text p lines h e =
     let s = sound (Coordinates n) h text p lines e in
     (omega (arith, s .fewest, s .most), s .long)
+
+pub p2p-count : (n : ℕ) (text : List ℕ) (p : Numbers) (lines : List Numbers) → n ≤ 512 → readText (Queries n) text ≡ read p lines → (p .first ≤ 256) × (length lines ≡ p .first)
+unfolding p2pRules
+p2p-count n text p lines h e = let s = sound (Queries n) h text p lines e in (s .most, s .long)
 
 -- ---- .gr
 
@@ -180,6 +186,57 @@ co-nodes text n a b p lines e =
     let all : p .first ≡ n = co-count n text p lines (f .1) (f .2) .0 in
     (s .long ∙ all, λ i h. s .entry i (omega arith) .node refl)
 
+-- ---- .p2p
+
+-- a query's ends are nodes
+pub p2p-query : (n : ℕ) → n ≤ 512 → (text : List ℕ) (p : Numbers) (lines : List Numbers) → readText (Queries n) text ≡ read p lines
+    → (i : ℕ) → i < length lines → Inside (p2pRules n .entries) (getD lines i none)
+unfolding p2pRules
+p2p-query n ok text p lines e i h =
+    let s = sound (Queries n) ok text p lines e in
+    inside (p2pRules n .entries) (getD lines i none) (s .entry i (omega (arith, s .long)) .inside)
+
+p2p-lines : (n : ℕ) → n ≤ 512 → (text : List ℕ) (p : Numbers) (lines : List Numbers) (a b : List ℕ) → readText (Queries n) text ≡ read p lines
+    → P2pLimits n (p .first) (map (columnOf First) lines ++ a) (map (columnOf Second) lines ++ b)
+unfolding p2pRules
+p2p-lines n ok text p lines a b e =
+    let count = p2p-count n text p lines ok e in
+    let at : (k : ℕ) → k < p .first → k < length lines = λ k h. omega (arith, count .1) in
+    let line : (k : ℕ) → k < p .first → Inside (p2pRules n .entries) (getD lines k none) = λ k h. p2p-query n ok text p lines e k (at k h) in
+    record {
+      queries = count .0;
+      source-least = λ k h. rw (front (columnOf First) lines a k 0 (at k h)) (line k h .low .first);
+      source-most = λ k h. rw (front (columnOf First) lines a k 0 (at k h)) (line k h .high .first);
+      target-least = λ k h. rw (front (columnOf Second) lines b k 0 (at k h)) (line k h .low .second);
+      target-most = λ k h. rw (front (columnOf Second) lines b k 0 (at k h)) (line k h .high .second);
+    }
+
+pub p2p-read : (text : List ℕ) (n : ℕ) (answers : List ℕ) (p : Numbers) (lines : List Numbers) → readP2p text n answers ≡ read p lines
+    → (256 ≤ length answers) × (1 ≤ n) × (n ≤ 512) × (readText (Queries n) text ≡ read p lines)
+unfolding readP2p
+p2p-read text n answers p lines e =
+    let wide = passes (leb mostQueries (length answers)) RowTooShort in
+    let given = passes (leb 1 n && leb n mostNodes) (BeyondLimits 0) in
+    let d = onward _ _ _ _ e in
+    let f = both-fine (passes (leb (length text) longestText) TextTooLong) (orElse wide (orElse given Fine)) (d .0) in
+    let g = both-fine wide (orElse given Fine) (f .1) in
+    let h = both-fine given Fine (g .1) in
+    let i = and-true (leb 1 n) (leb n mostNodes) (passed _ _ (h .0)) in
+    (leb-true _ _ (passed _ _ (g .0)), leb-true _ _ (i .0), leb-true _ _ (i .1), d .1)
+
+p2p-limits : (text : List ℕ) (n : ℕ) (answers a b : List ℕ) (k : ℕ) → p2pSays (readP2p text n answers) ≡ accepted (k ∷ [])
+    → P2pLimits n k (row (columnOf First) (readP2p text n answers) a) (row (columnOf Second) (readP2p text n answers) b)
+unfolding p2pSays row
+p2p-limits text n answers a b k e = by-outcome (readP2p text n answers) (p2p-read text n answers) e
+  where
+    by-outcome : (o : Outcome) → ((p : Numbers) (lines : List Numbers) → o ≡ read p lines → (256 ≤ length answers) × (1 ≤ n) × (n ≤ 512) × (readText (Queries n) text ≡ read p lines))
+        → p2pSays o ≡ accepted (k ∷ []) → P2pLimits n k (row (columnOf First) o a) (row (columnOf Second) o b)
+    by-outcome (read p lines) from d =
+        let f = from p lines refl in
+        let ek : p .first ≡ k = ap (λ (r : Reply). getD (r .values) 0 0) d in
+        rw (← ek) (p2p-lines n (f .2) text p lines (drop (length lines) a) (drop (length lines) b) (f .3))
+    by-outcome (refused r) from d = absurd (not-accepted r (k ∷ []) d)
+
 -- ---- the rows that a reader leaves after it accepted
 
 module _ (text a b c d : List ℕ) (n m : ℕ) (a′ b′ c′ d′ : List ℕ) (p : GrPromise text a b c d (GrRead n m) a′ b′ c′ d′) where
@@ -191,3 +248,6 @@ module _ (text a b c d : List ℕ) (n m : ℕ) (a′ b′ c′ d′ : List ℕ) 
 
 pub read-co-limits : (text : List ℕ) (n : ℕ) (a b a′ b′ : List ℤ) → CoPromise text n a b CoRead a′ b′ → CoLimits n a′ b′
 read-co-limits text n a b a′ b′ p = rw (p .x-left, p .y-left) (co-limits text n a b (sym (p .reply)))
+
+pub read-p2p-limits : (text : List ℕ) (n : ℕ) (answers a b : List ℕ) (k : ℕ) (a′ b′ : List ℕ) → P2pPromise text n answers a b (P2pRead k) a′ b′ → P2pLimits n k a′ b′
+read-p2p-limits text n answers a b k a′ b′ p = rw (p .sources-left, p .targets-left) (p2p-limits text n answers a b k (sym (p .reply)))

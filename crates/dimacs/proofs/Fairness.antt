@@ -22,6 +22,7 @@ use Rattle.scan.specs.declared.line.Line.the-variants.{Comment, Problem, Data, 
 use Rattle.dimacs.specs.Rules.{columnOf, naturals, noneAbove, within}
 use Rattle.dimacs.specs.Gr.{grRules}
 use Rattle.dimacs.specs.Co.{coRules}
+use Rattle.dimacs.specs.P2p.{p2pRules}
 use Rattle.dimacs.specs.Formats.{rulesOf}
 use Rattle.dimacs.specs.Judgement.{announced, again, problemJudged, dataJudged, judged}
 use Rattle.dimacs.specs.Fair.{Small, Modest, ModestLimits, Fair, FormatFair}
@@ -30,7 +31,7 @@ use Rattle.dimacs.specs.declared.rows.Column.the-variants.{First, Second
 use Rattle.dimacs.specs.declared.format.Limits.{Limits}
 use Rattle.dimacs.specs.declared.format.Rules.{Rules}
 use Rattle.dimacs.specs.declared.format.Format.{Format}
-use Rattle.dimacs.specs.declared.format.Format.the-variants.{Graph, Coordinates}
+use Rattle.dimacs.specs.declared.format.Format.the-variants.{Graph, Coordinates, Queries}
 use Rattle.dimacs.specs.declared.judge.Head.{Head}
 use Rattle.dimacs.proofs.Counting.{clash}
 
@@ -46,7 +47,7 @@ naturals-modest : (a b c : ℕ) → a < 10_000_000 → b < 10_000_000 → c < 10
 naturals-modest a b c h i j = record { first = h; second = i; third = j; x = omega arith; y = omega arith }
 
 pub fair-of : (F : Format) → FormatFair F → (problem : Numbers) → problem .first ≤ 512 → Fair (rulesOf F problem)
-unfolding grRules coRules
+unfolding grRules coRules p2pRules
 fair-of Graph f problem h =
     record {
       problem = record { least = naturals-modest 1 0 0 (omega arith) (omega arith) (omega arith); most = naturals-modest 512 2048 0 (omega arith) (omega arith) (omega arith) };
@@ -72,6 +73,16 @@ fair-of (Coordinates n) f problem h =
       low = λ e. omega arith;
       high = λ e. omega arith;
       all = λ e. omega arith;
+    }
+fair-of (Queries n) f problem h =
+    record {
+      problem = record { least = naturals-modest 0 0 0 (omega arith) (omega arith) (omega arith); most = naturals-modest 256 0 0 (omega arith) (omega arith) (omega arith) };
+      entries = record { least = naturals-modest 1 1 0 (omega arith) (omega arith) (omega arith); most = naturals-modest n n 0 (omega arith) (omega arith) (omega arith) };
+      nodes = omega arith;
+      counts = each-column 256 0 0 2048 (omega arith) (omega arith) (omega arith);
+      low = λ e. absurd (clash e);
+      high = λ e. absurd (clash e);
+      all = λ e. absurd (clash e);
     }
 
 -- ---- within its limits

@@ -7,7 +7,4 @@ pub mod RowLaws
 pub mod Sound
 pub mod Unique
 pub mod Worked
-pub mod FormLaws
-pub mod TextLaws
-pub mod BeginLaws
 pub mod WhichField

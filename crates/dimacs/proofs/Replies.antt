@@ -16,13 +16,14 @@ use Rattle.scan.specs.declared.holding.Numbers.{Numbers}
 use Rattle.dimacs.specs.Texts.{Outcome, read, refused, onJudged, readText}
 use Rattle.dimacs.specs.Rules.{columnOf, axisOf}
 use Rattle.dimacs.specs.Rows.{row, openRow}
-use Rattle.dimacs.specs.Reading.{readGr, grSays, readCo, coSays}
-use Rattle.dimacs.specs.Promise.{GrPromise, CoPromise}
-use Rattle.dimacs.specs.declared.format.Format.the-variants.{Graph, Coordinates}
+use Rattle.dimacs.specs.Reading.{readGr, grSays, readCo, coSays, readP2p, p2pSays}
+use Rattle.dimacs.specs.Promise.{GrPromise, CoPromise, P2pPromise}
+use Rattle.dimacs.specs.declared.format.Format.the-variants.{Graph, Coordinates, Queries}
 use Rattle.dimacs.specs.declared.rows.Column.the-variants.{First, Second, Third}
 use Rattle.dimacs.specs.declared.rows.Axis.the-variants.{X, Y}
 use Rattle.dimacs.specs.declared.GrReply.the-variants.{Read as GrRead, Refused as GrRefused}
 use Rattle.dimacs.specs.declared.CoReply.the-variants.{Read as CoRead, Refused as CoRefused}
+use Rattle.dimacs.specs.declared.P2pReply.the-variants.{Read as P2pRead, Refused as P2pRefused}
 
 -- the outcome of a text that was judged
 pub fine-outcome : (o p : Outcome) (j : Judged) → onJudged j p ≡ o → j ≡ Fine → o ≡ p
@@ -93,6 +94,36 @@ module _ (text : List ℕ) (n : ℕ) (x y : List ℤ) where
       → a ≡ map (axisOf X) lines ++ drop (p .first) x → b ≡ map (axisOf Y) lines ++ drop (p .first) y → CoPromise text n x y CoRead a b
   unfolding coSays row
   co-in p lines a b e long f g = record { reply = rw e; x-left = rw (e, long) f; y-left = rw (e, long) g }
+
+-- ---- .p2p
+
+module _ (text : List ℕ) (n : ℕ) (answers : List ℕ) where
+  pub p2p-too-long : 65536 < length text → readP2p text n answers ≡ refused TextTooLong
+  unfolding readP2p onJudged
+  p2p-too-long h = rw (lt-leb _ _ h)
+
+  pub p2p-too-short : length text ≤ 65536 → length answers < 256 → readP2p text n answers ≡ refused RowTooShort
+  unfolding readP2p onJudged
+  p2p-too-short h i = rw (le-leb _ _ h, lt-leb _ _ i)
+
+  pub p2p-beyond : length text ≤ 65536 → 256 ≤ length answers → leb 1 n && leb n 512 ≡ false → readP2p text n answers ≡ refused (BeyondLimits 0)
+  unfolding readP2p onJudged
+  p2p-beyond h i j = rw (le-leb _ _ h, le-leb _ _ i, j)
+
+  pub p2p-text : length text ≤ 65536 → 256 ≤ length answers → leb 1 n && leb n 512 ≡ true → readP2p text n answers ≡ readText (Queries n) text
+  unfolding readP2p onJudged
+  p2p-text h i j = rw (le-leb _ _ h, le-leb _ _ i, j)
+
+  module _ (sources targets : List ℕ) where
+    pub p2p-out : (r : Refusal) → readP2p text n answers ≡ refused r → P2pPromise text n answers sources targets (P2pRefused r) sources targets
+    unfolding p2pSays row
+    p2p-out r e = record { reply = rw e; sources-left = rw e; targets-left = rw e }
+
+    pub p2p-in : (p : Numbers) (lines : List Numbers) (a b : List ℕ) → readP2p text n answers ≡ read p lines → length lines ≡ p .first
+        → a ≡ map (columnOf First) lines ++ drop (p .first) sources → b ≡ map (columnOf Second) lines ++ drop (p .first) targets
+        → P2pPromise text n answers sources targets (P2pRead (p .first)) a b
+    unfolding p2pSays row
+    p2p-in p lines a b e long f g = record { reply = rw e; sources-left = rw (e, long) f; targets-left = rw (e, long) g }
 
 -- ---- there is room
 

@@ -22,6 +22,7 @@ use Rattle.scan.specs.declared.line.Line.the-variants.{Comment, Problem, Data, 
 use Rattle.dimacs.specs.Rules.{columnOf, within}
 use Rattle.dimacs.specs.Gr.{grRules}
 use Rattle.dimacs.specs.Co.{coRules}
+use Rattle.dimacs.specs.P2p.{p2pRules}
 use Rattle.dimacs.specs.Formats.{formatLine, rulesOf}
 use Rattle.dimacs.specs.Judgement.{announced, judged, ended}
 use Rattle.dimacs.specs.Texts.{Outcome, read, State, start, place, next, onJudged, readLines, readText}
@@ -30,7 +31,7 @@ use Rattle.dimacs.specs.declared.rows.Column.{Column}
 use Rattle.dimacs.specs.declared.rows.Column.the-variants.{First, Second, Third}
 use Rattle.dimacs.specs.declared.format.Rules.{Rules}
 use Rattle.dimacs.specs.declared.format.Format.{Format}
-use Rattle.dimacs.specs.declared.format.Format.the-variants.{Graph, Coordinates}
+use Rattle.dimacs.specs.declared.format.Format.the-variants.{Graph, Coordinates, Queries}
 use Rattle.dimacs.proofs.Counting.{trues, At, clash, trues-set, full, none-taken, trues-none}
 use Rattle.dimacs.proofs.Fairness.{fair-of, column-below, inside, once-in, problem-fine, DataFine, data-fine}
 
@@ -94,9 +95,10 @@ start-kept F =
 -- what a format asks of its problem line does not hang on it
 alike-rules : (F : Format) (a b : Numbers)
     → (rulesOf F a .problem ≡ rulesOf F b .problem) × (rulesOf F a .fewest ≡ rulesOf F b .fewest) × (rulesOf F a .most ≡ rulesOf F b .most) × (rulesOf F a .count ≡ rulesOf F b .count)
-unfolding grRules coRules
+unfolding grRules coRules p2pRules
 alike-rules Graph a b = (refl, refl, refl, refl)
 alike-rules (Coordinates n) a b = (refl, refl, refl, refl)
+alike-rules (Queries n) a b = (refl, refl, refl, refl)
 
 module _ (F : Format) (ok : FormatFair F) (s : State) (g : Kept F s) (k : ℕ) where
   fair : Fair (rulesOf F (s .head .problem))

@@ -26,12 +26,13 @@ use Rattle.scan.proofs.PieceLaws.{rest-long}
 use Rattle.dimacs.specs.Rules.{within}
 use Rattle.dimacs.specs.Gr.{grProblem, grArc, grLine}
 use Rattle.dimacs.specs.Co.{coProblem, coNode, coLine}
+use Rattle.dimacs.specs.P2p.{p2pProblem, p2pQuery, p2pLine}
 use Rattle.dimacs.specs.Formats.{formatLine}
 use Rattle.dimacs.specs.Judgement.{announced, problemJudged, again, dataJudged, faultAt, judged}
 use Rattle.dimacs.specs.WhichField.{Formed, FaultExactly, ToldExactly, FaultSeen, ColumnWithin}
 use Rattle.dimacs.specs.Fair.{Short}
 use Rattle.dimacs.specs.declared.format.Format.{Format}
-use Rattle.dimacs.specs.declared.format.Format.the-variants.{Graph, Coordinates}
+use Rattle.dimacs.specs.declared.format.Format.the-variants.{Graph, Coordinates, Queries}
 use Rattle.dimacs.specs.declared.format.Rules.{Rules}
 use Rattle.dimacs.specs.declared.judge.Head.{Head}
 
@@ -44,15 +45,21 @@ co-forms : Forms coProblem coNode
 unfolding bytes firstAt sameBytes
 co-forms = record { problem-word = refl; rows-word = refl; problem-some = omega arith; rows-some = omega arith; apart = refl }
 
+p2p-forms : Forms p2pProblem p2pQuery
+unfolding bytes firstAt sameBytes
+p2p-forms = record { problem-word = refl; rows-word = refl; problem-some = omega arith; rows-some = omega arith; apart = refl }
+
 pub fault-exactly : (F : Format) (s : List ℕ) → FaultExactly F s
-unfolding grLine coLine
+unfolding grLine coLine p2pLine
 fault-exactly Graph s = (λ h. fault-formless grProblem grArc s gr-forms (h .0) (h .1), formless-fault grProblem grArc s)
 fault-exactly (Coordinates n) s = (λ h. fault-formless coProblem coNode s co-forms (h .0) (h .1), formless-fault coProblem coNode s)
+fault-exactly (Queries n) s = (λ h. fault-formless p2pProblem p2pQuery s p2p-forms (h .0) (h .1), formless-fault p2pProblem p2pQuery s)
 
 pub fault-seen : (F : Format) (s : List ℕ) → FaultSeen F s
-unfolding grLine coLine
+unfolding grLine coLine p2pLine
 fault-seen Graph s f e = line-seen grProblem grArc s f gr-forms e
 fault-seen (Coordinates n) s f e = line-seen coProblem coNode s f co-forms e
+fault-seen (Queries n) s f e = line-seen p2pProblem p2pQuery s f p2p-forms e
 
 pub column-within : (F : Format) (s : List ℕ) → ColumnWithin F s
 column-within F s f e = seen-within s f (fault-seen F s f e)

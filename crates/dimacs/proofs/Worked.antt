@@ -8,7 +8,7 @@ use native.Mathlib.Omega.{arith}
 use lib.IntN.{ℤ, pos, negsuc}
 use lib.ListN.{length, drop}
 use Rattle.rules.specs.Paper.{accepted}
-use Rattle.rules.specs.declared.Refusal.the-variants.{EmptyLine, BeyondLimits, CountsDisagree, NoLetter, Misspelt, FieldCount}
+use Rattle.rules.specs.declared.Refusal.the-variants.{EmptyLine, OutOfOrder, BeyondLimits, CountsDisagree, NoLetter, Misspelt, FieldCount}
 use Rattle.scan.specs.Ascii.{bytes}
 use Rattle.scan.specs.Pieces.{opening, pieces, firstAt, sameBytes}
 use Rattle.scan.specs.Numbers.{valueFrom, naturalOf, plain, negated, integerOf}
@@ -17,12 +17,13 @@ use Rattle.scan.specs.Line.{lineOf}
 use Rattle.dimacs.specs.Rules.{naturals, located, within}
 use Rattle.dimacs.specs.Gr.{grLine, grRules}
 use Rattle.dimacs.specs.Co.{coLine, coRules}
+use Rattle.dimacs.specs.P2p.{p2pLine, p2pRules}
 use Rattle.dimacs.specs.Judgement.{problemJudged, dataJudged, judged, ended}
 use Rattle.dimacs.specs.Texts.{Outcome, read, refused, next, onJudged, readLines, readText}
 use Rattle.dimacs.specs.Rules.{columnOf, axisOf}
 use Rattle.dimacs.specs.Rows.{row, openRow}
 use Rattle.dimacs.specs.Reading.{readGr, grSays, readCo, coSays}
-use Rattle.dimacs.specs.declared.format.Format.the-variants.{Graph, Coordinates}
+use Rattle.dimacs.specs.declared.format.Format.the-variants.{Graph, Coordinates, Queries}
 use Rattle.dimacs.specs.declared.rows.Column.the-variants.{First, Second, Third}
 use Rattle.dimacs.specs.declared.rows.Axis.the-variants.{X, Y}
 use Rattle.dimacs.proofs.Replies.{gr-text, co-text}
@@ -65,6 +66,27 @@ pub worked-faults :
 unfolding bytes opening pieces firstAt sameBytes valueFrom naturalOf plain negated integerOf before takenNatural takenInteger taken onField matched lineOf
     within grLine grRules coLine coRules problemJudged dataJudged judged ended next onJudged readLines readText
 worked-faults = (refl, refl, refl, refl, refl, refl)
+
+-- a day's list for two nodes: K queries in order, the same one twice; K above 256, a query beyond K and one that also names no
+-- node, queries lacking
+abbrev p2p : List ℕ → Outcome
+p2p text = readText (Queries 2) text
+
+pub worked-lists :
+    (p2p (bytes "p aux sp p2p 3\nq 1 2\nc\nq 2 2\nq 1 2") ≡ read (naturals 3 0 0) (naturals 1 2 0 ∷ naturals 2 2 0 ∷ naturals 1 2 0 ∷ []))
+    × (p2p (bytes "p aux sp p2p 0\n") ≡ read (naturals 0 0 0) [])
+    × (p2p (bytes "p aux sp p2p 257\n") ≡ refused (BeyondLimits 1))
+    × (p2p (bytes "p aux sp p2p 1\nq 1 3") ≡ refused (BeyondLimits 2))
+    × (p2p (bytes "p aux sp p2p 1\nq 1 2\nq 2 1\n") ≡ refused (CountsDisagree 3))
+    × (p2p (bytes "p aux sp p2p 1\nq 1 2\nq 0 1\n") ≡ refused (BeyondLimits 3))
+    × (p2p (bytes "p aux sp p2p 2\nq 1 2\n") ≡ refused (CountsDisagree 3))
+    × (p2p [] ≡ refused (CountsDisagree 1))
+    × (p2p (bytes "q 1 2\n") ≡ refused (OutOfOrder 1))
+    × (p2p (bytes "p aux sp co 1\n") ≡ refused (Misspelt 1 10))
+    × (p2p (bytes "p aux sp p2p 1\nq 1 2 3\n") ≡ refused (FieldCount 2 7))
+unfolding bytes opening pieces firstAt sameBytes valueFrom naturalOf plain negated integerOf before takenNatural takenInteger taken onField matched lineOf
+    within p2pLine p2pRules problemJudged dataJudged judged ended next onJudged readLines readText
+worked-lists = (refl, refl, refl, refl, refl, refl, refl, refl, refl, refl, refl)
 
 -- whatever rows are lent
 pub net-gr-read : (tails heads weights closures : List ℕ)

@@ -5,7 +5,7 @@ use mathlib.Core.List.{List}
 use lib.IntN.{ℤ, pos}
 use lib.ListN.{getD, length}
 use lib.Signed.{_≤ℤ_}
-use Rattle.rules.specs.Limits.{mostNodes, mostArcs, mostWeight, leastCoordinate, mostCoordinate}
+use Rattle.rules.specs.Limits.{mostNodes, mostArcs, mostQueries, mostWeight, leastCoordinate, mostCoordinate}
 
 -- .gr: n nodes and m arcs, whose tails, heads and weights are within limits
 pub record GrLimits (n m : ℕ) (tails heads weights : List ℕ) : Type 0 where
@@ -29,3 +29,11 @@ pub record CoLimits (n : ℕ) (x y : List ℤ) : Type 0 where
   pub x-most : (i : ℕ) → i < n → getD x i (pos 0) ≤ℤ mostCoordinate
   pub y-least : (i : ℕ) → i < n → leastCoordinate ≤ℤ getD y i (pos 0)
   pub y-most : (i : ℕ) → i < n → getD y i (pos 0) ≤ℤ mostCoordinate
+
+-- .p2p: at most 256 queries for a graph of n nodes, whose sources and targets are nodes of it
+pub record P2pLimits (n k : ℕ) (sources targets : List ℕ) : Type 0 where
+  pub queries : k ≤ mostQueries
+  pub source-least : (i : ℕ) → i < k → 1 ≤ getD sources i 0
+  pub source-most : (i : ℕ) → i < k → getD sources i 0 ≤ n
+  pub target-least : (i : ℕ) → i < k → 1 ≤ getD targets i 0
+  pub target-most : (i : ℕ) → i < k → getD targets i 0 ≤ n

@@ -11,7 +11,7 @@ use Rattle.dimacs.specs.declared.rows.Column.{Column}
 use Rattle.dimacs.specs.declared.format.Limits.{Limits}
 use Rattle.dimacs.specs.declared.format.Rules.{Rules}
 use Rattle.dimacs.specs.declared.format.Format.{Format}
-use Rattle.dimacs.specs.declared.format.Format.the-variants.{Graph, Coordinates}
+use Rattle.dimacs.specs.declared.format.Format.the-variants.{Graph, Coordinates, Queries}
 
 abbrev pub Small : ℤ → Type 0
 Small (pos v) = v < 9_999_999
@@ -42,6 +42,7 @@ pub record Fair (R : Rules) : Type 0 where
 abbrev pub FormatFair : Format → Type 0
 FormatFair Graph = Unit
 FormatFair (Coordinates n) = n ≤ 512
+FormatFair (Queries n) = n ≤ 512
 
 -- a fault whose column is on a line of the longest text, or just after it
 abbrev pub Short : Line → Type 0

@@ -1,6 +1,7 @@
 pub mod Rules
 pub mod Gr
 pub mod Co
+pub mod P2p
 pub mod Formats
 pub mod Judgement
 pub mod WhichField

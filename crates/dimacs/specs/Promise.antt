@@ -5,9 +5,10 @@ use mathlib.Core.List.{List}
 use lib.IntN.{ℤ}
 use Rattle.dimacs.specs.Rules.{columnOf, axisOf}
 use Rattle.dimacs.specs.Rows.{row, openRow}
-use Rattle.dimacs.specs.Reading.{grReply, coReply, readGr, grSays, readCo, coSays}
+use Rattle.dimacs.specs.Reading.{grReply, coReply, p2pReply, readGr, grSays, readCo, coSays, readP2p, p2pSays}
 use Rattle.dimacs.specs.declared.GrReply.{GrReply}
 use Rattle.dimacs.specs.declared.CoReply.{CoReply}
+use Rattle.dimacs.specs.declared.P2pReply.{P2pReply}
 use Rattle.dimacs.specs.declared.rows.Column.the-variants.{First, Second, Third}
 use Rattle.dimacs.specs.declared.rows.Axis.the-variants.{X, Y}
 
@@ -24,3 +25,9 @@ pub record CoPromise (text : List ℕ) (n : ℕ) (x y : List ℤ) (r : CoReply) 
   pub reply : coReply r ≡ coSays (readCo text n x y)
   pub x-left : x′ ≡ row (axisOf X) (readCo text n x y) x
   pub y-left : y′ ≡ row (axisOf Y) (readCo text n x y) y
+
+-- `read_p2p` replied r and left the rows as sources′ and targets′
+pub record P2pPromise (text : List ℕ) (n : ℕ) (answers sources targets : List ℕ) (r : P2pReply) (sources′ targets′ : List ℕ) : Type 0 where
+  pub reply : p2pReply r ≡ p2pSays (readP2p text n answers)
+  pub sources-left : sources′ ≡ row (columnOf First) (readP2p text n answers) sources
+  pub targets-left : targets′ ≡ row (columnOf Second) (readP2p text n answers) targets

@@ -13,10 +13,11 @@ use Rattle.scan.specs.declared.fields.Fault.{Fault}
 use Rattle.scan.specs.declared.line.Line.the-variants.{Faulty}
 use Rattle.dimacs.specs.Gr.{grProblem, grArc}
 use Rattle.dimacs.specs.Co.{coProblem, coNode}
+use Rattle.dimacs.specs.P2p.{p2pProblem, p2pQuery}
 use Rattle.dimacs.specs.Formats.{formatLine}
 use Rattle.dimacs.specs.Judgement.{judged}
 use Rattle.dimacs.specs.declared.format.Format.{Format}
-use Rattle.dimacs.specs.declared.format.Format.the-variants.{Graph, Coordinates}
+use Rattle.dimacs.specs.declared.format.Format.the-variants.{Graph, Coordinates, Queries}
 use Rattle.dimacs.specs.declared.format.Rules.{Rules}
 use Rattle.dimacs.specs.declared.judge.Head.{Head}
 
@@ -24,6 +25,7 @@ use Rattle.dimacs.specs.declared.judge.Head.{Head}
 abbrev pub Formed : Format → List ℕ → Type 0
 Formed Graph s = HasForm grProblem grArc s
 Formed (Coordinates n) s = HasForm coProblem coNode s
+Formed (Queries n) s = HasForm p2pProblem p2pQuery s
 
 module _ (F : Format) (s : List ℕ) where
   -- 1. A line has a fault exactly where it has no form of its kind of file. `fault-exactly`

@@ -8,12 +8,14 @@ ghost use Rattle.scan.specs.Held.{heldLine};
 ghost use Rattle.dimacs.specs.Rules.{naturals, noneAbove, within};
 ghost use Rattle.dimacs.specs.Gr.{grLine, grRules};
 ghost use Rattle.dimacs.specs.Co.{coLine, coRules};
+ghost use Rattle.dimacs.specs.P2p.{p2pLine, p2pRules};
 ghost use Rattle.dimacs.specs.Formats.{formatLine, rulesOf};
 
-// A format; the coordinates are of a graph of so many nodes.
+// A format; the coordinates, and the queries, are of a graph of so many nodes.
 pub enum Format {
     Graph,
     Coordinates(u32),
+    Queries(u32),
 }
 
 // The least and the most that each number of a line may be.
@@ -121,6 +123,26 @@ fn rules_co(n: u32) -> Rules
     }
 }
 
+// `p aux sp p2p K` and `q S T`, for a graph of n nodes.
+fn rules_p2p(n: u32) -> Rules
+    ensures { λ r. ⌜ r ≡ p2pRules n ⌝ }
+{
+    Rules {
+        problem: Limits {
+            least: naturals_of(0, 0, 0),
+            most: naturals_of(rules::QUERIES, 0, 0),
+        },
+        count: Column::First,
+        fewest: 0,
+        most: rules::QUERIES,
+        entries: Limits {
+            least: naturals_of(1, 1, 0),
+            most: naturals_of(n, n, 0),
+        },
+        once: false,
+    }
+}
+
 // The rules of a format after its problem line, or before it with no numbers.
 pub fn rules_for(format: Format, problem: Numbers) -> Rules
     ensures { λ r. ⌜ r ≡ rulesOf format problem ⌝ }
@@ -128,10 +150,11 @@ pub fn rules_for(format: Format, problem: Numbers) -> Rules
     match format {
         Format::Graph => rules_gr(problem.first),
         Format::Coordinates(n) => rules_co(n),
+        Format::Queries(n) => rules_p2p(n),
     }
 }
 
-// A line of a graph, and of coordinates.
+// A line of a graph, of coordinates, and of queries.
 fn line_gr(s: &[u8]) -> Line
     ensures { λ r. ⌜ r ≡ heldLine (grLine (now (s .entry))) ⌝ }
 {
@@ -144,6 +167,12 @@ fn line_co(s: &[u8]) -> Line
     read_line(s, b"p aux sp co N", b"v ID X Y")
 }
 
+fn line_p2p(s: &[u8]) -> Line
+    ensures { λ r. ⌜ r ≡ heldLine (p2pLine (now (s .entry))) ⌝ }
+{
+    read_line(s, b"p aux sp p2p K", b"q S T")
+}
+
 // What a line is.
 pub fn line_of(format: Format, s: &[u8]) -> Line
     ensures { λ r. ⌜ r ≡ heldLine (formatLine format (now (s .entry))) ⌝ }
@@ -151,5 +180,6 @@ pub fn line_of(format: Format, s: &[u8]) -> Line
     match format {
         Format::Graph => line_gr(s),
         Format::Coordinates(_) => line_co(s),
+        Format::Queries(_) => line_p2p(s),
     }
 }

@@ -13,7 +13,7 @@ use rows::put_naturals;
 use rules::Judged;
 use rules::Refusal;
 use sheet::read_sheet;
-ghost use Rattle.dimacs.specs.Promise.{GrPromise, CoPromise};
+ghost use Rattle.dimacs.specs.Promise.{GrPromise, CoPromise, P2pPromise};
 
 // A graph file is read, with n and m, or refused.
 pub enum GrReply {
@@ -24,6 +24,12 @@ pub enum GrReply {
 // A coordinate file is read, or refused.
 pub enum CoReply {
     Read,
+    Refused(Refusal),
+}
+
+// A day's list is read, with K, or refused.
+pub enum P2pReply {
+    Read(u32),
     Refused(Refusal),
 }
 
@@ -85,4 +91,36 @@ pub fn read_co(text: &[u8], n: u32, x: &mut [i32], y: &mut [i32]) -> CoReply
         return CoReply::Read;
     };
     CoReply::Refused(refusal)
+}
+
+// Reads a day's list for a graph of n nodes: the first K places of the rows become the queries' sources and targets. The row
+// `answers` is only measured: it is to have a place for each of 256 queries.
+pub fn read_p2p(
+    text: &[u8],
+    n: u32,
+    answers: &[u32],
+    sources: &mut [u32; 256],
+    targets: &mut [u32; 256],
+) -> P2pReply
+    ensures { λ r. ⌜ P2pPromise (now (text .entry)) n (now (answers .entry)) (now (sources .entry)) (now (targets .entry)) r (now (sources .exit)) (now (targets .exit)) ⌝ }
+{
+    if rules::TEXT < text.len() {
+        return P2pReply::Refused(Refusal::TextTooLong);
+    }
+    if answers.len() < 256 {
+        return P2pReply::Refused(Refusal::RowTooShort);
+    }
+    if !((1 <= n) & (n <= rules::NODES)) {
+        return P2pReply::Refused(Refusal::BeyondLimits { line: 0 });
+    }
+    let sheet = read_sheet(text, Format::Queries(n));
+    let judged = sheet.judged;
+    let Judged::Refused(refusal) = judged else {
+        let lines = sheet.lines;
+        let k = sheet.problem.first;
+        put_naturals(lines, Column::First, k as usize, sources);
+        put_naturals(lines, Column::Second, k as usize, targets);
+        return P2pReply::Read(k);
+    };
+    P2pReply::Refused(refusal)
 }

@@ -21,7 +21,7 @@ use Rattle.judging.specs.Order.{arcRowsLong, boxRowsLong, arcs, goodClos
 -- ---- A row
 
 -- it is long enough where the whole row is
-long-cut {ℓ} : {A : Type ℓ} (m : ℕ) (row : List A) → leb m (length (take m row)) ≡ leb m (length row)
+pub long-cut {ℓ} : {A : Type ℓ} (m : ℕ) (row : List A) → leb m (length (take m row)) ≡ leb m (length row)
 long-cut m row = elim (decLe m (length row)) [
   | yes h ↦ le-leb m _ (omega (arith, length-take m row)) ∙ sym (le-leb m _ h)
   | no h ↦ lt-leb m _ (omega (arith, length-take m row)) ∙ sym (lt-leb m _ (omega arith))

@@ -126,6 +126,10 @@ module _ (n m : ℕ) (R : Rows) where
     unfoldable pub checkJudged : Judged
     checkJudged = shapedBy (networkJudged n m R) n m x y boxes true
 
+    -- a day's list, once its text is read: 5, 2, 8, 14, 9, 10. It is lent no route row, and its queries name nodes
+    unfoldable pub dayJudged : Judged
+    dayJudged = shapedBy (networkJudged n m R) n m x y boxes true
+
     -- update: 5, 2, 8, 14, 9, 10, 11, 5, 14
     unfoldable pub updateJudged : ℕ → ℕ → ℕ → Judged
     updateJudged arc weight closure = inTurn (checkJudged ∷ change m arc weight closure ∷ [])

@@ -16,7 +16,7 @@ use Rattle.commands.specs.declared.Shown.the-variants.{First}
 use Rattle.commands.specs.declared.Request.{Request}
 use Rattle.commands.specs.declared.Request.the-variants as request
 use Rattle.commands.specs.declared.Command.{Command}
-use Rattle.commands.specs.declared.Command.the-variants.{Faulty, Lend, Fresh, Save, Other}
+use Rattle.commands.specs.declared.Command.the-variants.{Faulty, Lend, Fresh, Read, Save, Other}
 use Rattle.commands.specs.declared.arguments.Pair.{Pair}
 use Rattle.commands.specs.declared.arguments.Pair.the-variants as pair
 use Rattle.commands.specs.declared.faults.Judged.{Judged}
@@ -35,6 +35,7 @@ abbrev Promised : List (List ℕ) → Command → Type 0
 Promised values (Lend row) = (length values ≤ placesOf row) × (valuesJudged (kindOf row) values ≡ Good)
 Promised values (Faulty f) = record {}
 Promised values Fresh = record {}
+Promised values (Read reading) = record {}
 Promised values (Save format) = record {}
 Promised values (Other r) = record {}
 
@@ -80,8 +81,7 @@ module _ (values : List (List ℕ)) where
   verb-promised verb.M ws e = with-number (number (word 0 ws)) request.SetM
   verb-promised verb.Lend ws e = with-row (rowOf (word 0 ws)) (lendAsked (drop 1 ws)) (λ row. rw e (lend-row row))
   verb-promised verb.Show ws e = with-row (rowOf (word 0 ws)) (showAsked (drop 1 ws)) (show-row (drop 1 ws))
-  verb-promised verb.Gr ws e = record {}
-  verb-promised verb.Co ws e = record {}
+  verb-promised (verb.Read reading) ws e = record {}
   verb-promised verb.Build ws e = record {}
   verb-promised verb.Check ws e = record {}
   verb-promised verb.Update ws e = with-pair (pairIn ws) _ (λ arc weight. with-number (byte (word 2 ws)) (λ b. request.Call (call.Update arc weight b)))

@@ -1,4 +1,6 @@
-// The listing of `boxes`: one line per arc.
+// The listings of the programs: that of `boxes`, one line per arc, here.
+pub mod journeys;
+
 ghost use Prim.Native.Nat.{_+_, _*_, _≤_};
 ghost use lib.ListN.{length};
 ghost use Rattle.pages.specs.Page.{Puts};

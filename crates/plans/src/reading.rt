@@ -5,10 +5,10 @@ ghost use lib.ListN.{length};
 ghost use Rattle.files.specs.File.{Within, heldIn};
 ghost use Rattle.commands.specs.Rows.{stretchOf};
 ghost use Rattle.commands.specs.declared.rows.Row.the-variants.{Tails, Heads, Weights, Closed, X, Y};
-ghost use Rattle.commands.specs.declared.Request.the-variants as request;
+ghost use Rattle.commands.specs.declared.verbs.Reading.the-variants as reading;
 ghost use Rattle.lending.specs.Stores.{partAt};
 ghost use Rattle.desk.specs.Desk.{desk};
-ghost use Rattle.desk.specs.Requests.{Met};
+ghost use Rattle.desk.specs.Requests.{ReadFrom};
 use calls::Done;
 use calls::Sizes;
 use calls::texts::read_graph;
@@ -39,7 +39,7 @@ fn graph_in(
     closures: &mut [u8],
 ) -> Done
     requires { ⌜ (length (now counts) ≡ 32768) × (length (now bytes) ≡ 49152) × (now tails ≡ partAt lent (stretchOf Tails) (now counts)) × (now heads ≡ partAt lent (stretchOf Heads) (now counts)) × (now weights ≡ partAt lent (stretchOf Weights) (now counts)) × (now closures ≡ partAt lent (stretchOf Closed) (now bytes)) × Within (length (now text)) file ⌝ }
-    ensures { λ r. let before = desk sizes lent (now (counts .entry)) (now (numbers .entry)) (now (bytes .entry)) in let after = desk (r .sizes) lent (now (counts .exit)) (now (numbers .entry)) (now (bytes .exit)) in ⌜ Met (heldIn (now (text .entry)) file) before request.ReadGr after (now (page .entry)) (r .end) (now (page .exit)) ⌝ }
+    ensures { λ r. let before = desk sizes lent (now (counts .entry)) (now (numbers .entry)) (now (bytes .entry)) in let after = desk (r .sizes) lent (now (counts .exit)) (now (numbers .entry)) (now (bytes .exit)) in ⌜ ReadFrom (heldIn (now (text .entry)) file) before reading.Gr after (now (page .entry)) (r .end) (now (page .exit)) ⌝ }
     ensures { λ r. ⌜ r .end ≤ 1000 ⌝ }
 {
     let done = read_graph(page, text, file, sizes, tails, heads, weights, closures);
@@ -61,7 +61,7 @@ pub fn graph(
     bytes: &mut [u8],
 ) -> Done
     requires { ⌜ (length (now counts) ≡ 32768) × (length (now bytes) ≡ 49152) × Within (length (now text)) file ⌝ }
-    ensures { λ r. let before = desk sizes lent (now (counts .entry)) (now (numbers .entry)) (now (bytes .entry)) in let after = desk (r .sizes) lent (now (counts .exit)) (now (numbers .entry)) (now (bytes .exit)) in ⌜ Met (heldIn (now (text .entry)) file) before request.ReadGr after (now (page .entry)) (r .end) (now (page .exit)) ⌝ }
+    ensures { λ r. let before = desk sizes lent (now (counts .entry)) (now (numbers .entry)) (now (bytes .entry)) in let after = desk (r .sizes) lent (now (counts .exit)) (now (numbers .entry)) (now (bytes .exit)) in ⌜ ReadFrom (heldIn (now (text .entry)) file) before reading.Gr after (now (page .entry)) (r .end) (now (page .exit)) ⌝ }
     ensures { λ r. ⌜ r .end ≤ 1000 ⌝ }
 {
     let mut tails = [0u32; 4096];
@@ -101,7 +101,7 @@ fn places_in(
     y: &mut [i32],
 ) -> usize
     requires { ⌜ (length (now numbers) ≡ 40960) × (now x ≡ partAt lent (stretchOf X) (now numbers)) × (now y ≡ partAt lent (stretchOf Y) (now numbers)) × Within (length (now text)) file ⌝ }
-    ensures { λ r. let before = desk sizes lent (now (counts .entry)) (now (numbers .entry)) (now (bytes .entry)) in let after = desk sizes lent (now (counts .entry)) (now (numbers .exit)) (now (bytes .entry)) in ⌜ Met (heldIn (now (text .entry)) file) before request.ReadCo after (now (page .entry)) r (now (page .exit)) ⌝ }
+    ensures { λ r. let before = desk sizes lent (now (counts .entry)) (now (numbers .entry)) (now (bytes .entry)) in let after = desk sizes lent (now (counts .entry)) (now (numbers .exit)) (now (bytes .entry)) in ⌜ ReadFrom (heldIn (now (text .entry)) file) before reading.Co after (now (page .entry)) r (now (page .exit)) ⌝ }
     ensures { λ r. ⌜ r ≤ 1000 ⌝ }
 {
     let end = read_places(page, text, file, sizes.n, x, y);
@@ -121,7 +121,7 @@ pub fn places(
     bytes: &[u8],
 ) -> usize
     requires { ⌜ (length (now numbers) ≡ 40960) × Within (length (now text)) file ⌝ }
-    ensures { λ r. let before = desk sizes lent (now (counts .entry)) (now (numbers .entry)) (now (bytes .entry)) in let after = desk sizes lent (now (counts .entry)) (now (numbers .exit)) (now (bytes .entry)) in ⌜ Met (heldIn (now (text .entry)) file) before request.ReadCo after (now (page .entry)) r (now (page .exit)) ⌝ }
+    ensures { λ r. let before = desk sizes lent (now (counts .entry)) (now (numbers .entry)) (now (bytes .entry)) in let after = desk sizes lent (now (counts .entry)) (now (numbers .exit)) (now (bytes .entry)) in ⌜ ReadFrom (heldIn (now (text .entry)) file) before reading.Co after (now (page .entry)) r (now (page .exit)) ⌝ }
     ensures { λ r. ⌜ r ≤ 1000 ⌝ }
 {
     let mut x = [0i32; 1024];

@@ -3,7 +3,7 @@ ghost use Prim.Native.Nat.{_≤_};
 ghost use mathlib.Core.Path.{_≡_};
 ghost use mathlib.Core.List.{[]};
 ghost use lib.ListN.{length};
-ghost use Rattle.files.specs.File.{Held, unread};
+ghost use Rattle.files.specs.File.{Held};
 ghost use Rattle.pages.specs.Page.{Replied};
 ghost use Rattle.commands.specs.Rows.{stretchOf};
 ghost use Rattle.commands.specs.declared.Request.the-variants as request;
@@ -57,7 +57,7 @@ pub fn write_row(
     bytes: &mut [u8],
 ) -> usize
     requires { ⌜ Full (stores (now counts) (now numbers) (now bytes)) ⌝ }
-    ensures { λ r. let before = desk sizes lent (now (counts .entry)) (now (numbers .entry)) (now (bytes .entry)) in let after = desk sizes lent (now (counts .entry)) (now (numbers .entry)) (now (bytes .exit)) in ⌜ Met unread before (request.Write format) after (now (page .entry)) r (now (page .exit)) ⌝ }
+    ensures { λ r. let before = desk sizes lent (now (counts .entry)) (now (numbers .entry)) (now (bytes .entry)) in let after = desk sizes lent (now (counts .entry)) (now (numbers .entry)) (now (bytes .exit)) in ⌜ Met before (request.Write format) after (now (page .entry)) r (now (page .exit)) ⌝ }
     ensures { λ r. ⌜ r ≤ 1000 ⌝ }
 {
     let s = Row::Text.stretch();

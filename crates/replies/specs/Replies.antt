@@ -10,6 +10,9 @@ use Rattle.pages.specs.Spaced.{countsText}
 use Rattle.wording.specs.Refusals.{refusalLine}
 use Rattle.commands.specs.declared.Fault.{Fault}
 use Rattle.commands.specs.declared.Fault.the-variants.{LongLine, EmptyLine, ControlByte, EmptyWord, NoCommand, WordCount, NoRow, LongRow, Misspelt, BeyondType, FewerLent}
+use Rattle.listing.specs.Journeys.{totalsText}
+use Rattle.daylist.specs.declared.Day.{Day}
+use Rattle.daylist.specs.declared.Day.the-variants as day
 use Rattle.search.specs.declared.Answer.{Answer}
 use Rattle.search.specs.declared.Answer.the-variants as answer
 use Rattle.reasons.specs.declared.WhyNot.{WhyNot}
@@ -22,8 +25,8 @@ okLine = bytes "ok\n"
 
 unfoldable pub helpLine : List ℕ
 helpLine =
-    bytes "commands: n N, m M, lend ROW VALUES, show ROW, show ROW K, gr FILE, co FILE, build, check, "
-    ++ bytes "update ARC WEIGHT BYTE, search S T, boxed S T, why S T ARC, write gr, write co, save gr FILE, save co FILE, fresh, help; rows: tails, heads, weights, x, y, boxes, route, text, closed\n"
+    bytes "commands: n N, m M, lend ROW VALUES, show ROW, show ROW K, gr FILE, co FILE, p2p FILE, build, check, "
+    ++ bytes "update ARC WEIGHT BYTE, search S T, boxed S T, why S T ARC, write gr, write co, save gr FILE, save co FILE, fresh, help; rows: tails, heads, weights, x, y, boxes, route, text, closed, answers\n"
 
 -- `build`, `check`, `update`: `ok`, or why the call was refused
 unfoldable pub judgedLine : Judged → List ℕ
@@ -33,6 +36,11 @@ judgedLine (Refused r) = refusalLine r
 -- `gr`: n and m of the file
 unfoldable pub sizesLine : ℕ → ℕ → List ℕ
 sizesLine n m = bytes "ok " ++ decimal n ++ bytes " " ++ decimal m ++ bytes "\n"
+
+-- `p2p`: how many queries had a route, how many had none, and the sum of the lengths; or why the list was refused
+unfoldable pub dayLine : Day → List ℕ
+dayLine (day.Ran found without sum) = bytes "ok " ++ totalsText found without sum
+dayLine (day.Refused r) = refusalLine r
 
 -- `search`, `boxed`: length, arc count, settled count and the route's arcs; or why the search was refused
 unfoldable pub answerLine : Answer → List ℕ → List ℕ

@@ -1,9 +1,11 @@
-// The answers that hold numbers: of a search, of a graph file, and of a text that is written.
+// The answers that hold numbers: of a search, of a graph file, of a day's list, and of a text that is written.
 ghost use Prim.Native.Nat.{_≤_};
 ghost use mathlib.Core.Path.{_≡_};
 ghost use lib.ListN.{length, take};
 ghost use Rattle.pages.specs.Page.{Puts};
-ghost use Rattle.replies.specs.Replies.{sizesLine, answerLine, writtenLine};
+ghost use Rattle.replies.specs.Replies.{sizesLine, dayLine, answerLine, writtenLine};
+use daylist::Day;
+use listing::journeys::put_totals;
 use pages::PAGE;
 use pages::put;
 use pages::put_after;
@@ -56,6 +58,22 @@ pub fn put_sizes(page: &mut [u8; PAGE], n: u32, m: u32) -> usize
     let a = put_after(page, 0, b"ok ", n);
     let b = put_after(page, a, b" ", m);
     put(page, b, b"\n")
+}
+
+// `ok` and the totals of a day's list, or why it was refused.
+pub fn put_day(page: &mut [u8; PAGE], day: Day) -> usize
+    ensures { λ r. ⌜ Puts (dayLine day) 0 (now (page .entry)) r (now (page .exit)) ⌝ }
+    ensures { λ r. ⌜ r ≤ 1000 ⌝ }
+{
+    match day {
+        Day::Ran { found, none, sum } => {
+            let a = put(page, 0, b"ok ");
+            return put_totals(page, a, found, none, sum);
+        }
+        Day::Refused(r) => {
+            return put_refusal(page, r);
+        }
+    }
 }
 
 // `ok` and the length of a text that is written, or why it is refused.

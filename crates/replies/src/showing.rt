@@ -10,7 +10,6 @@ ghost use Rattle.replies.specs.Showing.{howMany, textOf, showLine};
 use crate::words::put_fault;
 use commands::Fault;
 use commands::Shown;
-use commands::names::name_at;
 use commands::rows::Kind;
 use commands::rows::ROW_NAMES;
 use commands::rows::Row;
@@ -24,6 +23,7 @@ use pages::put;
 use pages::rows::put_bytes;
 use pages::rows::put_counts;
 use pages::rows::put_numbers;
+use scan::pieces::piece_at;
 
 // How many places of a row are to be shown, where so many are lent.
 fn how_many(shown: Shown, lent: usize) -> usize
@@ -41,7 +41,7 @@ fn put_name(page: &mut [u8; PAGE], row: Row) -> usize
     ensures { λ r. ⌜ r ≤ 1000 ⌝ }
 {
     let s = row.stretch();
-    put(page, 0, name_at(&ROW_NAMES, s.number))
+    put(page, 0, piece_at(&ROW_NAMES, b' ', s.number))
 }
 
 // The first k of a row's values, of which as many are lent.

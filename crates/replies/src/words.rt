@@ -22,12 +22,12 @@ pub fn put_help(page: &mut [u8; PAGE]) -> usize
     let a = put(
         page,
         0,
-        b"commands: n N, m M, lend ROW VALUES, show ROW, show ROW K, gr FILE, co FILE, build, check, ",
+        b"commands: n N, m M, lend ROW VALUES, show ROW, show ROW K, gr FILE, co FILE, p2p FILE, build, check, ",
     );
     put(
         page,
         a,
-        b"update ARC WEIGHT BYTE, search S T, boxed S T, why S T ARC, write gr, write co, save gr FILE, save co FILE, fresh, help; rows: tails, heads, weights, x, y, boxes, route, text, closed\n",
+        b"update ARC WEIGHT BYTE, search S T, boxed S T, why S T ARC, write gr, write co, save gr FILE, save co FILE, fresh, help; rows: tails, heads, weights, x, y, boxes, route, text, closed, answers\n",
     )
 }
 

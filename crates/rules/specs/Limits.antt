@@ -9,6 +9,10 @@ mostNodes = 512
 abbrev pub mostArcs : ℕ
 mostArcs = 2048
 
+-- queries of a day's list
+abbrev pub mostQueries : ℕ
+mostQueries = 256
+
 -- tenths of a second
 abbrev pub mostWeight : ℕ
 mostWeight = 1_000_000

@@ -10,6 +10,9 @@ pub const NODES: u32 = 512;
 
 pub const ARCS: u32 = 2048;
 
+// At most so many queries of a day's list.
+pub const QUERIES: u32 = 256;
+
 // The heaviest weight, in tenths of a second.
 pub const WEIGHT: u32 = 1000000;
 

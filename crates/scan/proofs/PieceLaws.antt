@@ -3,13 +3,13 @@ use mathlib.Core.Path.{_≡_, refl, sym, ap, ap₂, _∙_}
 use mathlib.Core.Logic.{_⊎_, inl, inr, ⊎-elim}
 use mathlib.Core.List.{List, [], _∷_}
 use mathlib.Core.Bool.{Bool, true, false, cond, _&&_}
-use Prim.Native.Nat.{ℕ, suc, _+_, _-_, _≤_, _<_, zero-le, suc-le-suc}
-use native.Mathlib.Nat.{le-of-suc-le-suc, not-suc-le-zero, le-of-eq, le-trans, le-suc, eq-or-lt-of-le}
+use Prim.Native.Nat.{ℕ, zero, suc, _+_, _-_, _≤_, _<_, zero-le, suc-le-suc}
+use native.Mathlib.Nat.{add-assoc, le-of-suc-le-suc, not-suc-le-zero, le-of-eq, le-trans, le-suc, eq-or-lt-of-le}
 use native.Mathlib.Numerals.{add-one}
 use native.Mathlib.Omega.{arith}
 use lib.Dec.{eqb}
 use lib.ListN.{length, getD, take, drop, length-drop, drop-of-length-le}
-use lib.Seq.{drop-cons, take-all}
+use lib.Seq.{drop-cons, drop-drop, take-all}
 use borrow.Author.Tests.{eq-eqb, ne-eqb}
 use Rattle.scan.specs.Pieces.{opening, pieces, firstAt, sameBytes, fieldsOf}
 
@@ -112,6 +112,28 @@ pieces-step sep (b ∷ t) e p h =
     whole k =
         pieces-whole sep [] b t k (inl refl)
         ∙ sym (ap₂ (λ (l : List ℕ) (r : List ℕ). l ∷ pieces sep [] r) (take-all (firstAt sep (b ∷ t)) (b ∷ t) k) (drop-of-length-le (b ∷ t) (le-trans k (le-suc _))))
+
+-- the same from a position on
+pub pieces-turn : (sep : ℕ) (s t : List ℕ) (at e : ℕ) → t ≡ drop at s → e ≡ firstAt sep t → at < length s
+    → pieces sep [] (drop at s) ≡ take e t ∷ pieces sep [] (drop (at + e + 1) s)
+pieces-turn sep s t at e p q h =
+    rw (p, pieces-step sep (drop at s) e (q ∙ ap (firstAt sep) p) (simp length-drop (omega arith)), drop-drop (e + 1) at s, ← add-assoc at e 1)
+
+pub pieces-end : (sep : ℕ) (s : List ℕ) (at : ℕ) → length s ≤ at → pieces sep [] (drop at s) ≡ []
+unfolding pieces
+pieces-end sep s at h = rw (drop-of-length-le s h)
+
+-- the piece in a place: t is what is left of s, and e the place of its first byte sep
+module _ (sep : ℕ) (s t : List ℕ) (at e : ℕ) (p : t ≡ drop at s) (q : e ≡ firstAt sep t) (h : at < length s) where
+  pub piece-here : (k : ℕ) → k ≡ 0 → getD (pieces sep [] (drop at s)) k [] ≡ take e t
+  piece-here k z = rw (pieces-turn sep s t at e p q h, z)
+
+  pub piece-on : (k : ℕ) → (k ≡ 0 → ⊥) → getD (pieces sep [] (drop at s)) k [] ≡ getD (pieces sep [] (drop (at + e + 1) s)) (k - 1) []
+  piece-on zero z = absurd (z refl)
+  piece-on (suc k) z = let less : suc k - 1 ≡ k = omega arith in rw (pieces-turn sep s t at e p q h, less)
+
+pub piece-end : (sep : ℕ) (s : List ℕ) (at k : ℕ) → length s ≤ at → getD (pieces sep [] (drop at s)) k [] ≡ []
+piece-end sep s at k h = rw (pieces-end sep s at h)
 
 -- the fields of a line: the first, and those after it; or one alone
 pub fields-cut : (s : List ℕ) (e : ℕ) → e ≡ firstAt 32 s → e < length s → fieldsOf s ≡ take e s ∷ fieldsOf (drop (e + 1) s)

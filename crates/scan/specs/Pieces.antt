@@ -1,10 +1,10 @@
 -- The pieces of a text: its lines, and the fields of a line.
-use Prim.Native.Nat.{ℕ, suc}
+use Prim.Native.Nat.{ℕ, suc, _+_}
 use Prim.Native.Char.{code}
 use mathlib.Core.List.{List, [], _∷_}
 use mathlib.Core.Bool.{Bool, true, false, cond, _&&_}
 use lib.Dec.{eqb}
-use lib.ListN.{take}
+use lib.ListN.{take, drop}
 
 -- b put before a list of pieces: it opens the first one, or is a piece by itself where there is none
 unfoldable pub opening : ℕ → List (List ℕ) → List (List ℕ)
@@ -28,6 +28,10 @@ fieldsOf s = pieces (code " ") ([] ∷ []) s
 unfoldable pub firstAt : ℕ → List ℕ → ℕ
 firstAt sep [] = 0
 firstAt sep (b ∷ t) = cond (eqb b sep) 0 (suc (firstAt sep t))
+
+-- what stands after the first byte sep, or nothing
+abbrev pub afterFirst : ℕ → List ℕ → List ℕ
+afterFirst sep s = drop (firstAt sep s + 1) s
 
 -- the first field: what stands before the first space
 abbrev pub firstField : List ℕ → List ℕ

@@ -2,7 +2,8 @@
 ghost use mathlib.Core.Path.{_≡_};
 ghost use Prim.Native.Nat.{_≤_};
 ghost use lib.ListN.{length, take, drop, getD};
-ghost use Rattle.scan.specs.Pieces.{firstAt, sameBytes};
+ghost use mathlib.Core.List.{[]};
+ghost use Rattle.scan.specs.Pieces.{firstAt, afterFirst, pieces, sameBytes};
 
 // Where the first byte sep of s stands, or the length of s.
 pub fn first_at(s: &[u8], sep: u8) -> usize
@@ -59,4 +60,34 @@ pub fn rest(s: &[u8], a: usize) -> &[u8]
     ensures { λ r. ⌜ now r ≡ drop a (now (s .entry)) ⌝ }
 {
     &s[a..]
+}
+
+// What stands after the first byte sep, or nothing.
+pub fn after_first(s: &[u8], sep: u8) -> &[u8]
+    ensures { λ r. ⌜ now r ≡ afterFirst sep (now (s .entry)) ⌝ }
+{
+    let e = first_at(s, sep);
+    if e < s.len() {
+        return rest(s, e + 1);
+    }
+    rest(s, s.len())
+}
+
+// The piece in a place, from 0, of those that a byte divides; nothing where there are fewer.
+pub fn piece_at(s: &[u8], sep: u8, place: usize) -> &[u8]
+    ensures { λ r. ⌜ now r ≡ getD (pieces sep [] (now (s .entry))) place [] ⌝ }
+    ensures { λ r. ⌜ length (now r) ≤ length (now (s .entry)) ⌝ }
+{
+    let mut k = place;
+    let mut at = 0;
+    while at < s.len() {
+        let left = rest(s, at);
+        let e = first_at(left, sep);
+        if k == 0 {
+            return front(left, e);
+        }
+        k -= 1;
+        at = at + e + 1;
+    }
+    rest(s, s.len())
 }

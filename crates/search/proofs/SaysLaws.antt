@@ -10,7 +10,7 @@ use Rattle.walks.proofs.SearchLaws.{found-unique, no-walk-unique, not-both}
 use Rattle.search.specs.Says.{Answers, found, none, Says, refused, answered}
 
 module _ {N : Net} {n s t : ℕ} {before : List ℕ} where
-  answers-unique : {reply reply′ : Reply} {after after′ : List ℕ} → Answers N n s t before reply after → Answers N n s t before reply′ after′ → (reply ≡ reply′) × (after ≡ after′)
+  pub answers-unique : {reply reply′ : Reply} {after after′ : List ℕ} → Answers N n s t before reply after → Answers N n s t before reply′ after′ → (reply ≡ reply′) × (after ≡ after′)
   answers-unique (found p) (found q) = let e = found-unique p q in (rw (e .length, e .count, e .settled), rw (e .route))
   answers-unique (found p) (none q) = absurd (not-both p q)
   answers-unique (none p) (found q) = absurd (not-both q p)

@@ -30,7 +30,7 @@ use Rattle.search.proofs.Cut.{network-cut}
 
 -- ---- The route row
 
-row-cut : (route before : List ℕ) (n : ℕ) → length route ≤ n → n ≤ length before
+pub row-cut : (route before : List ℕ) (n : ℕ) → length route ≤ n → n ≤ length before
     → (take n (route ++ drop (length route) before) ≡ route ++ drop (length route) (take n before)) × (drop n (route ++ drop (length route) before) ≡ drop n before)
 row-cut route before n short long =
     let k = length route in
@@ -76,7 +76,7 @@ module _ (n m : ℕ) (R : Rows) (s t : ℕ) (before : List ℕ) where
       (network-cut m R, l .room, short (isOpen (R .closures)) before l (other-way (open-arcs m R)))) says
 
   module _ (x y boxes : List ℤ) where
-    holding-cut : 1 ≤ t → t ≤ n → Alike (holding x y boxes t (network m R)) (holding (take n x) (take n y) (take (4 * m) boxes) t (network m (cut m R)))
+    pub holding-cut : 1 ≤ t → t ≤ n → Alike (holding x y boxes t (network m R)) (holding (take n x) (take n y) (take (4 * m) boxes) t (network m (cut m R)))
     unfolding laid network
     holding-cut low high = record {
       there = λ e a.

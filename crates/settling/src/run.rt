@@ -71,8 +71,40 @@ fn run_by(
     }
 }
 
-// Settles node after node from `s` on, until the next is the target `t` or none is left. Target 0 is never found: all
-// that can be reached is labelled.
+// Settles node after node from `s` on, until the next is the target `t` or none is left, along arcs that are lent chained by their
+// tails. Target 0 is never found: all that can be reached is labelled.
+pub fn run_along(
+    s: usize,
+    t: usize,
+    n: usize,
+    m: usize,
+    tails: &[u32],
+    heads: &[u32],
+    weights: &[u32],
+    closures: &[u8],
+    first: &[u32; 512],
+    next: &[u32; 2048],
+    toward: Toward,
+    boxes: &[i32],
+) -> Outcome
+    requires { ⌜ (1 ≤ s) × (s ≤ n) × Sound n m (rows (now tails) (now heads) (now weights) (now closures)) × Chained m (now tails) (now first) (now next) × Room toward m (now boxes) ⌝ }
+    ensures { λ r. ⌜ r ≡ searchOf (rows (now (tails .entry)) (now (heads .entry)) (now (weights .entry)) (now (closures .entry))) (keeps toward (now (closures .entry)) (now (boxes .entry))) n m t s ⌝ }
+{
+    let task = Task { s, t, n, m, toward };
+    run_by(
+        STEP,
+        task,
+        tails,
+        heads,
+        weights,
+        closures,
+        first,
+        next,
+        boxes,
+    )
+}
+
+// The same, with the arcs chained here.
 pub fn run(
     s: usize,
     t: usize,
@@ -91,16 +123,18 @@ pub fn run(
     let mut first = [m as u32; 512];
     let mut next = [0u32; 2048];
     link(m, tails, &mut first, &mut next);
-    let task = Task { s, t, n, m, toward };
-    run_by(
-        STEP,
-        task,
+    run_along(
+        s,
+        t,
+        n,
+        m,
         tails,
         heads,
         weights,
         closures,
         &first,
         &next,
+        toward,
         boxes,
     )
 }

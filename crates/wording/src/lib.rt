@@ -1,16 +1,19 @@
 // Refusals as the programs print them.
 ghost use Prim.Native.Nat.{_+_, _≤_};
+ghost use mathlib.Core.Path.{_≡_};
 ghost use lib.ListN.{length};
 ghost use Rattle.pages.specs.Page.{Puts};
 ghost use Rattle.pages.specs.Spaced.{countsText};
-ghost use Rattle.wording.specs.Refusals.{printedValues, placeLine, valuesText, faultText, wordsText, refusalLine, noFileLine};
+ghost use Rattle.wording.specs.Refusals.{printedValues, placeText, valuesText, lineOf, part, afterMark, wordsText, refusalLine, noFileLine};
 use pages::PAGE;
 use pages::put;
 use pages::put_after;
-use pages::put_between;
-use pages::put_count;
 use pages::rows::put_counts;
 use rules::Refusal;
+use scan::pieces::after_first;
+use scan::pieces::first_at;
+use scan::pieces::front;
+use scan::pieces::piece_at;
 
 // The refusal's values, each after a space.
 fn put_values(page: &mut [u8; PAGE], at: usize, why: Refusal) -> usize
@@ -23,7 +26,7 @@ fn put_values(page: &mut [u8; PAGE], at: usize, why: Refusal) -> usize
     put_counts(page, at, &values[..told.count])
 }
 
-// What `boxes` prints of the values: line and column of 3, 15, 16 and 17, else the place, or 0.
+// What a program prints of the values: line and column of 3, 15, 16 and 17, else the place, or 0.
 fn put_printed(page: &mut [u8; PAGE], at: usize, why: Refusal) -> usize
     requires { ⌜ at ≤ 1000 ⌝ }
     ensures { λ r. ⌜ Puts (countsText (printedValues why)) at (now (page .entry)) r (now (page .exit)) ⌝ }
@@ -35,127 +38,75 @@ fn put_printed(page: &mut [u8; PAGE], at: usize, why: Refusal) -> usize
     put_after(page, at, b" ", why.place())
 }
 
-// `refused`, the paper's number, and the place, with its column where there is one: a line of `boxes`.
+// `refused`, the paper's number, and the place, with its column where there is one: what a program prints.
 pub fn put_place(page: &mut [u8; PAGE], at: usize, why: Refusal) -> usize
     requires { ⌜ at ≤ 500 ⌝ }
-    ensures { λ r. ⌜ Puts (placeLine why) at (now (page .entry)) r (now (page .exit)) ⌝ }
+    ensures { λ r. ⌜ Puts (placeText why) at (now (page .entry)) r (now (page .exit)) ⌝ }
     ensures { λ r. ⌜ r ≤ at + 300 ⌝ }
 {
     let a = put_after(page, at, b"refused ", why.number());
-    let b = put_printed(page, a, why);
-    put(page, b, b"\n")
+    put_printed(page, a, why)
 }
 
-// A fault of a line: where it is seen, and what it is.
-fn put_fault(page: &mut [u8; PAGE], at: usize, line: u32, column: u32, words: &[u8]) -> usize
-    requires { ⌜ (at ≤ 1000) × (length (now words) ≤ 200) ⌝ }
-    ensures { λ r. ⌜ Puts (faultText line column (now (words .entry))) at (now (page .entry)) r (now (page .exit)) ⌝ }
-    ensures { λ r. ⌜ r ≤ at + 56 + length (now (words .entry)) ⌝ }
+// The refusals in words, in the order of their numbers; `#` stands for a value. Line 0 is for 5 outside a text.
+const PATTERNS: [u8; 689] = *b"\
+    n, m or the new weight is beyond its limits\n\
+    the text is over 65536 bytes\n\
+    a lent row is too short\n\
+    line # is empty\n\
+    line # is data before the p line or a second p line\n\
+    a number in line # is beyond its limits\n\
+    the counts disagree at line #\n\
+    line # places a node a second time\n\
+    arc # has a bad node or weight\n\
+    node # has a bad coordinate\n\
+    the box of arc # is not well shaped\n\
+    the source, target or arc is not in the network\n\
+    no walk leads from the source to the target, settled #\n\
+    the box of arc # misses node #\n\
+    the closure of arc # is neither 0 nor 1\n\
+    line #, column #: no line of this kind of file begins so\n\
+    line #, column #: the field is misspelt\n\
+    line #, column #: a field is missing or one too many\n";
+
+// The line of the patterns that a refusal is told by, from its number and its first value.
+fn line_of(number: u32, first: u32) -> usize
+    ensures { λ r. ⌜ r ≡ lineOf number first ⌝ }
 {
-    let a = put_between(page, at, b"line ", line, b", column ");
-    let b = put_count(page, a, column);
-    let c = put(page, b, b": ");
-    put(page, c, words)
+    if (number == 5) & (first == 0) {
+        return 0;
+    }
+    number as usize
+}
+
+// Puts a pattern up to its first mark, with a value in the mark's place.
+fn put_part(page: &mut [u8; PAGE], at: usize, pattern: &[u8], value: u32) -> usize
+    requires { ⌜ (at ≤ 2000) × (length (now pattern) ≤ 1000) ⌝ }
+    ensures { λ r. ⌜ Puts (part value (now (pattern .entry))) at (now (page .entry)) r (now (page .exit)) ⌝ }
+    ensures { λ r. ⌜ r + length (afterMark (now (pattern .entry))) ≤ at + length (now (pattern .entry)) + 20 ⌝ }
+{
+    let e = first_at(pattern, b'#');
+    if e < pattern.len() {
+        return put_after(page, at, front(pattern, e), value);
+    }
+    put(page, at, pattern)
 }
 
 // The refusal in words.
 fn put_words(page: &mut [u8; PAGE], at: usize, why: Refusal) -> usize
     requires { ⌜ at ≤ 1000 ⌝ }
     ensures { λ r. ⌜ Puts (wordsText why) at (now (page .entry)) r (now (page .exit)) ⌝ }
-    ensures { λ r. ⌜ r ≤ at + 260 ⌝ }
+    ensures { λ r. ⌜ r ≤ at + 140 ⌝ }
 {
-    match why {
-        Refusal::TextTooLong => {
-            return put(page, at, b"the text is over 65536 bytes");
-        }
-        Refusal::RowTooShort => {
-            return put(page, at, b"a lent row is too short");
-        }
-        Refusal::EmptyLine { line, column: _ } => {
-            return put_between(page, at, b"line ", line, b" is empty");
-        }
-        Refusal::OutOfOrder { line } => {
-            return put_between(
-                page,
-                at,
-                b"line ",
-                line,
-                b" is data before the p line or a second p line",
-            );
-        }
-        Refusal::BeyondLimits { line } => {
-            if line == 0 {
-                return put(page, at, b"n, m or the new weight is beyond its limits");
-            }
-            return put_between(
-                page,
-                at,
-                b"a number in line ",
-                line,
-                b" is beyond its limits",
-            );
-        }
-        Refusal::CountsDisagree { line } => {
-            return put_after(page, at, b"the counts disagree at line ", line);
-        }
-        Refusal::NodeAgain { line } => {
-            return put_between(page, at, b"line ", line, b" places a node a second time");
-        }
-        Refusal::BadArc { arc } => {
-            return put_between(page, at, b"arc ", arc, b" has a bad node or weight");
-        }
-        Refusal::BadCoordinate { node } => {
-            return put_between(page, at, b"node ", node, b" has a bad coordinate");
-        }
-        Refusal::BadBox { arc } => {
-            return put_between(page, at, b"the box of arc ", arc, b" is not well shaped");
-        }
-        Refusal::NotInNetwork => {
-            return put(page, at, b"the source, target or arc is not in the network");
-        }
-        Refusal::NoWalk { settled } => {
-            return put_after(
-                page,
-                at,
-                b"no walk leads from the source to the target, settled ",
-                settled,
-            );
-        }
-        Refusal::BoxMisses { arc, node } => {
-            let a = put_between(page, at, b"the box of arc ", arc, b" misses node ");
-            return put_count(page, a, node);
-        }
-        Refusal::BadClosure { arc } => {
-            return put_between(
-                page,
-                at,
-                b"the closure of arc ",
-                arc,
-                b" is neither 0 nor 1",
-            );
-        }
-        Refusal::NoLetter { line, column } => {
-            return put_fault(
-                page,
-                at,
-                line,
-                column,
-                b"no line of this kind of file begins so",
-            );
-        }
-        Refusal::Misspelt { line, column } => {
-            return put_fault(page, at, line, column, b"the field is misspelt");
-        }
-        Refusal::FieldCount { line, column } => {
-            return put_fault(
-                page,
-                at,
-                line,
-                column,
-                b"a field is missing or one too many",
-            );
-        }
-    }
+    let told = why.told();
+    let values = told.values;
+    let first = values[0];
+    let second = values[1];
+    let pattern = piece_at(&PATTERNS, b'\n', line_of(told.number, first));
+    let later = after_first(pattern, b'#');
+    let a = put_part(page, at, pattern, first);
+    let b = put_part(page, a, later, second);
+    put(page, b, after_first(later, b'#'))
 }
 
 // `refused`, the paper's number, all the values, and the words in brackets: a reply of the console.

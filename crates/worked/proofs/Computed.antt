@@ -1,15 +1,17 @@
--- What search, build, check and update tell, computed: by the definitions that the code's steps meet.
+-- What search, build, check, update and a day's list tell, computed: by the definitions that the code's steps meet.
 use Prim.Native.Nat.{ℕ, zero, suc, _+_}
 use mathlib.Core.Bool.{Bool, cond}
-use mathlib.Core.List.{List, [], _∷_}
+use mathlib.Core.List.{List, [], _∷_, _++_, map}
 use lib.IntN.{ℤ}
-use lib.ListN.{length}
+use lib.ListN.{length, drop, replicate}
 use lib.Dec.{eqb}
 use Rattle.rules.specs.Paper.{Reply, accepted, refusal}
 use Rattle.rules.specs.declared.Judged.{Judged}
 use Rattle.rules.specs.declared.Judged.the-variants.{Fine, Refused}
 use Rattle.rules.specs.declared.Refusal.the-variants.{NoWalk, BoxMisses}
-use Rattle.walks.specs.Rows.{Rows, isOpen}
+use Rattle.scan.specs.declared.holding.Numbers.{Numbers}
+use Rattle.dimacs.specs.Texts as text
+use Rattle.walks.specs.Rows.{Rows, at, isOpen}
 use Rattle.geometry.specs.Box.{Box, mark}
 use Rattle.geometry.specs.Row.{coordinate, boxOf, withBox}
 use Rattle.settling.specs.declared.Outcome.{Outcome}
@@ -18,13 +20,14 @@ use Rattle.settling.specs.Toward.{keeps}
 use Rattle.settling.specs.Labels.{lengthOf, arcsOf}
 use Rattle.settling.specs.Run.{searchOf}
 use Rattle.settling.specs.Trace.{traceOf}
-use Rattle.judging.specs.Order.{searchJudged, boxedJudged, buildJudged, checkJudged, updateJudged}
+use Rattle.judging.specs.Order.{searchJudged, boxedJudged, buildJudged, checkJudged, updateJudged, dayJudged}
 use Rattle.drawing.specs.declared.compare.Miss.{Miss}
 use Rattle.drawing.specs.declared.compare.Miss.the-variants.{Nowhere, First}
 use Rattle.drawing.specs.Leads.{leadsTo}
 use Rattle.drawing.specs.Grown.{grownBy}
 use Rattle.drawing.specs.Missed.{missesNode}
 use Rattle.boxwork.specs.Says.{changed}
+use Rattle.daylist.specs.Replies.{entry, withRoute, withNone, total}
 use Rattle.worked.specs.Table.{Told}
 
 -- a refusal leaves the rows as they were, else `told` is told
@@ -52,6 +55,22 @@ unfoldable pub boxedTold : ℕ → ℕ → Rows → List ℤ → List ℤ → Li
 boxedTold n m R x y boxes s t row =
     let keep = heldBy (R .closures) x y boxes t in
     orTold (boxedJudged n m R x y boxes s t (length row)) row [] [] (answerOf R keep m t row (searchOf R keep n m t s))
+
+-- ---- A day's list
+
+module _ (n m : ℕ) (R : Rows) (x y boxes : List ℤ) where
+  -- the replies of separate searches
+  unfoldable pub repliesTold : List Numbers → List Reply
+  repliesTold [] = []
+  repliesTold (q ∷ queries) = boxedTold n m R x y boxes (q .first) (q .second) (replicate n 0) .reply ∷ repliesTold queries
+
+  -- where its text was read so
+  unfoldable pub dayTold : List ℕ → text.Outcome → Told
+  dayTold before (text.refused r) = record { reply = refusal r; numbers = before; closures = []; boxes = [] }
+  dayTold before (text.read problem queries) =
+      let replies = repliesTold queries in
+      orTold (dayJudged n m R x y boxes) before [] []
+      (record { reply = accepted (withRoute replies ∷ withNone replies ∷ total replies ∷ []); numbers = map entry replies ++ drop (length replies) before; closures = []; boxes = [] })
 
 -- ---- Build and update
 

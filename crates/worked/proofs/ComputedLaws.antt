@@ -2,21 +2,24 @@
 use Prim.Native.Nat.{ℕ, zero, suc, _+_, _*_, _≤_}
 use mathlib.Core.Path.{_≡_, refl, subst}
 use mathlib.Core.Bool.{Bool}
-use mathlib.Core.List.{List, []}
+use mathlib.Core.List.{List, [], _∷_, _++_, map}
 use native.Mathlib.Omega.{arith}
 use native.Mathlib.Numerals.{add-one}
 use lib.IntN.{ℤ}
-use lib.ListN.{length}
+use lib.ListN.{length, drop, replicate, length-replicate}
 use Rattle.rules.specs.Paper.{accepted}
 use Rattle.rules.specs.declared.Judged.{Judged}
 use Rattle.rules.specs.declared.Judged.the-variants.{Fine, Refused}
+use Rattle.scan.specs.declared.holding.Numbers.{Numbers}
+use Rattle.dimacs.specs.Texts as text
+use Rattle.dimacs.specs.Reading.{readP2p}
 use Rattle.walks.specs.Walk.{Net, kept}
 use Rattle.walks.specs.Rows.{Rows, rows, laid, isOpen}
 use Rattle.geometry.specs.Box.{Box}
 use Rattle.geometry.specs.Row.{boxOf}
 use Rattle.settling.proofs.Choice.{cond-by}
 use Rattle.settling.specs.Run.{searchOf}
-use Rattle.judging.specs.Order.{searchJudged, boxedJudged, buildJudged, checkJudged, updateJudged}
+use Rattle.judging.specs.Order.{searchJudged, boxedJudged, buildJudged, checkJudged, updateJudged, dayJudged}
 use Rattle.judging.proofs.FineLaws.{SearchLent, search-fine, boxed-fine, build-fine, check-fine, update-fine}
 use Rattle.search.specs.Says.{Answers, Says, SearchSays, BoxedSays, refused, answered}
 use Rattle.search.proofs.Networks.{answers-alike, open-arcs, held-arcs}
@@ -29,8 +32,14 @@ use Rattle.drawing.specs.Missed.{missesNode, IsFirst}
 use Rattle.drawing.proofs.DrawnLaws.{puts-box, drawn-none, drawn-next}
 use Rattle.boxwork.specs.Says.{Builds, Checks, Updates, BuildSays, CheckSays, UpdateSays, changed}
 use Rattle.boxwork.proofs.Meaning.{tight-made, updated-made, missed-first, missed-none}
+use Rattle.daylist.specs.Replies.{entry, withRoute, withNone, total}
+use Rattle.daylist.specs.Says as day
+use Rattle.daylist.specs.Says.{DaySays}
+use Rattle.daylist.specs.Claims as separately
+use Rattle.daylist.specs.Claims.{Separate}
+use Rattle.daylist.proofs.Claims.{read-named, separate-replies}
 use Rattle.worked.proofs.LowestLaws.{lowest-arc}
-use Rattle.worked.proofs.Computed.{orTold, answerOf, searchTold, boxedTold, heldBy, drawnTo, grownOf, tightOf, buildTold, updateTold, lowestArc, missReply, checkTold}
+use Rattle.worked.proofs.Computed.{orTold, answerOf, searchTold, boxedTold, heldBy, repliesTold, dayTold, drawnTo, grownOf, tightOf, buildTold, updateTold, lowestArc, missReply, checkTold}
 use Rattle.worked.specs.Table.{Told}
 
 -- ---- Searches
@@ -59,6 +68,35 @@ module _ (n m : ℕ) (R : Rows) (s t : ℕ) (row : List ℕ) where
   boxed-told x y boxes =
       says-told (boxedJudged n m R x y boxes s t (length row)) _ (λ e.
       answers-alike (held-arcs x y boxes t m R) (answer-told (heldBy (R .closures) x y boxes t) s t row (boxed-fine n m R s t (length row) x y boxes e .0)))
+
+-- ---- A day's list
+
+module _ (n m : ℕ) (R : Rows) (x y boxes : List ℤ) where
+  separate-told : (queries : List Numbers) → Separate n m R x y boxes queries (repliesTold n m R x y boxes queries)
+  unfolding repliesTold
+  separate-told [] = separately.no-more
+  separate-told (q ∷ queries) =
+      separately.then {route = replicate n 0} (omega (arith, length-replicate {A = ℕ} n 0)) (boxed-told n m R (q .first) (q .second) (replicate n 0) x y boxes) (separate-told queries)
+
+  module _ (lines before : List ℕ) where
+    rows-told : (problem : Numbers) (queries : List Numbers) (j : Judged) → readP2p lines n before ≡ text.read problem queries → dayJudged n m R x y boxes ≡ j
+        → let replies = repliesTold n m R x y boxes queries in
+        let told = orTold j before [] []
+        (record { reply = accepted (withRoute replies ∷ withNone replies ∷ total replies ∷ []); numbers = map entry replies ++ drop (length replies) before; closures = []; boxes = [] }) in
+        DaySays lines n m R x y boxes before (told .reply) (told .numbers)
+    unfolding orTold
+    rows-told problem queries (Refused r) e j = day.rows-refused e j
+    rows-told problem queries Fine e j =
+        day.answered e j (separate-replies n m R x y boxes j (read-named lines n before problem queries e) (separate-told queries))
+
+    text-told : (o : text.Outcome) → readP2p lines n before ≡ o
+        → let told = dayTold n m R x y boxes before o in DaySays lines n m R x y boxes before (told .reply) (told .numbers)
+    unfolding dayTold
+    text-told (text.refused r) e = day.text-refused e
+    text-told (text.read problem queries) e = rows-told problem queries (dayJudged n m R x y boxes) e refl
+
+    pub day-told : let told = dayTold n m R x y boxes before (readP2p lines n before) in DaySays lines n m R x y boxes before (told .reply) (told .numbers)
+    day-told = text-told (readP2p lines n before) refl
 
 -- ---- Build and update
 

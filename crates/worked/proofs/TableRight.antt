@@ -9,6 +9,17 @@ use lib.Dec.{leb}
 use Rattle.rules.specs.Judging.{each, isFine}
 use Rattle.rules.proofs.AndLaws.{and-true}
 use Rattle.rules.proofs.JudgingLaws.{is-fine}
+use Rattle.scan.specs.Ascii.{bytes}
+use Rattle.scan.specs.Pieces.{opening, pieces, firstAt, sameBytes}
+use Rattle.scan.specs.Numbers.{valueFrom, naturalOf, plain, negated, integerOf}
+use Rattle.scan.specs.Fields as fields
+use Rattle.scan.specs.Fields.{takenNatural, takenInteger, onField, matched}
+use Rattle.scan.specs.Line.{lineOf}
+use Rattle.dimacs.specs.Rules.{within}
+use Rattle.dimacs.specs.P2p.{p2pLine, p2pRules}
+use Rattle.dimacs.specs.Judgement.{problemJudged, dataJudged, judged, ended}
+use Rattle.dimacs.specs.Texts.{next, onJudged, readLines, readText}
+use Rattle.dimacs.specs.Reading.{readP2p}
 use Rattle.walks.specs.Rows.{network}
 use Rattle.walks.specs.Through.{InS}
 use Rattle.geometry.specs.Hull.{smaller, larger, taken}
@@ -18,7 +29,7 @@ use Rattle.settling.specs.Nearest.{better, leaderOf, nearestOf}
 use Rattle.settling.specs.Run.{afterPick, runOf}
 use Rattle.settling.specs.Trace.{fits, firstOf, arcFits, intoOf, afterInto, traceOf}
 use Rattle.settling.specs.LengthsTo.{onShortest}
-use Rattle.judging.specs.Order.{arcsJudged, networkJudged, searchedBy, placedBy, shapedBy, searchJudged, boxedJudged, buildJudged, checkJudged, updateJudged, whyJudged}
+use Rattle.judging.specs.Order.{arcsJudged, networkJudged, searchedBy, placedBy, shapedBy, searchJudged, boxedJudged, buildJudged, checkJudged, updateJudged, whyJudged, dayJudged}
 use Rattle.judging.proofs.StageLaws.{network-fine}
 use Rattle.drawing.specs.Leads.{leadsAt, lengthsTo}
 use Rattle.drawing.specs.Grown.{grownIf, grownBy}
@@ -26,12 +37,13 @@ use Rattle.drawing.specs.Missed.{missesNode}
 use Rattle.reasons.specs.Using.{Among}
 use Rattle.reasons.specs.Steps.{isAmong}
 use Rattle.reasons.proofs.Computed.{reasonBy, reasonOf, judgedReply, replyOf, reply-says}
-use Rattle.worked.specs.Plans.{hall, reweightedHall, closedHall, cutHall, shutHall, oneWay, zeros, behind, west, triangle, detour, closedTriangle, bridge, liftedBridge, hallBoxes, ledBoxes, closedBoxes, raisedBoxes, wideBoxes, flatBoxes, fullBoxes, treeBoxes, triangleBoxes, mendedBoxes, route}
-use Rattle.worked.proofs.Computed.{orTold, answerOf, searchTold, boxedTold, drawnTo, buildTold, updateTold, lowestNode, orArc, lowestArc, checkTold, membersFrom, membersOf}
-use Rattle.worked.proofs.ComputedLaws.{search-told, boxed-told, build-told, check-told, update-told}
+use Rattle.daylist.specs.Replies.{withRoute, withNone, total}
+use Rattle.worked.specs.Plans.{hall, reweightedHall, closedHall, cutHall, shutHall, oneWay, zeros, behind, west, triangle, detour, closedTriangle, bridge, liftedBridge, hallBoxes, ledBoxes, closedBoxes, raisedBoxes, wideBoxes, flatBoxes, fullBoxes, treeBoxes, triangleBoxes, mendedBoxes, route, answers}
+use Rattle.worked.proofs.Computed.{orTold, answerOf, searchTold, boxedTold, repliesTold, dayTold, drawnTo, buildTold, updateTold, lowestNode, orArc, lowestArc, checkTold, membersFrom, membersOf}
+use Rattle.worked.proofs.ComputedLaws.{search-told, boxed-told, day-told, build-told, check-told, update-told}
 use Rattle.worked.proofs.MembersLaws.{members-are}
 use Rattle.worked.proofs.Tests.{sameNumbers, same-numbers, sameTold, same-told, walks, walks-by}
-use Rattle.worked.specs.Table.{Told, Call, search, boxed, build, check, update, why, Says, Case, set, walk, call, Right, Each, no-line, line, table, TableRight}
+use Rattle.worked.specs.Table.{Told, Call, search, boxed, build, check, update, why, day, Says, Case, set, walk, call, Right, Each, no-line, line, table, TableRight}
 
 abbrev pub toldOf : Call → Told
 toldOf (search p s t) = searchTold (p .nodes) (p .arcs) (p .rows) s t route
@@ -40,6 +52,7 @@ toldOf (build p before) = buildTold (p .nodes) (p .arcs) (p .rows) (p .x) (p .y)
 toldOf (check p boxes) = checkTold (p .nodes) (p .arcs) (p .rows) (p .x) (p .y) boxes
 toldOf (update p boxes arc weight closure) = updateTold (p .nodes) (p .arcs) (p .rows) (p .x) (p .y) boxes arc weight closure
 toldOf (why p s t arc) = record { reply = replyOf (p .nodes) (p .arcs) (p .rows) s t arc; numbers = []; closures = []; boxes = [] }
+toldOf (day p boxes text) = dayTold (p .nodes) (p .arcs) (p .rows) (p .x) (p .y) boxes answers (readP2p text (p .nodes) answers)
 
 says : (c : Call) → Says c (toldOf c)
 says (search p s t) = search-told (p .nodes) (p .arcs) (p .rows) s t route
@@ -48,6 +61,7 @@ says (build p before) = build-told (p .nodes) (p .arcs) (p .rows) (p .x) (p .y) 
 says (check p boxes) = check-told (p .nodes) (p .arcs) (p .rows) (p .x) (p .y) boxes
 says (update p boxes arc weight closure) = update-told (p .nodes) (p .arcs) (p .rows) (p .x) (p .y) boxes arc weight closure
 says (why p s t arc) = reply-says (p .nodes) (p .arcs) (p .rows) s t arc
+says (day p boxes text) = day-told (p .nodes) (p .arcs) (p .rows) (p .x) (p .y) boxes text answers
 
 unfoldable pub passes : Case → Bool
 passes (set p e nodes) =
@@ -88,4 +102,7 @@ unfolding
     before startOf labelled offered marked arcStep relaxed settleOf better leaderOf nearestOf afterPick runOf
     fits firstOf arcFits intoOf afterInto traceOf onShortest leadsAt lengthsTo grownIf grownBy missesNode
     isAmong reasonBy reasonOf judgedReply replyOf
+    bytes opening pieces firstAt sameBytes valueFrom naturalOf plain negated integerOf fields.before takenNatural takenInteger fields.taken onField matched lineOf
+    within p2pLine p2pRules problemJudged dataJudged judged ended next onJudged readLines readText readP2p
+    answers dayJudged withRoute withNone total repliesTold dayTold
 table-right = each-right table refl

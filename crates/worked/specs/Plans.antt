@@ -167,10 +167,13 @@ triangleBoxes = box (pos 10) (pos 10) (pos 0) (pos 0) (box (pos 10) (pos 10) (po
 unfoldable pub mendedBoxes : List ℤ
 mendedBoxes = box (pos 10) (pos 10) (pos 0) (pos 10) (box (pos 10) (pos 10) (pos 10) (pos 10) (box (pos 10) (pos 10) (pos 10) (pos 10) []))
 
--- ---- Rows as they are lent: for six boxes, and for a route of four nodes
+-- ---- Rows as they are lent: for six boxes, for a route of four nodes, and for the answers of a list
 
 abbrev pub blank : List ℤ
 blank = replicate 24 (pos 7)
 
 abbrev pub route : List ℕ
 route = 0 ∷ 0 ∷ 0 ∷ 0 ∷ []
+
+unfoldable pub answers : List ℕ
+answers = replicate 256 7

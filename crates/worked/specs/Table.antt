@@ -1,6 +1,6 @@
--- The starred lines of 01, the errors that learners bring, the closed tracks of request b, the reasons of request e and the mark of
--- request f: one table under one statement. The statement is made of the functions' own relations, so that each line says what a
--- function replies and writes. `table-right` in proofs/TableRight.antt proves it.
+-- The starred lines of 01, the errors that learners bring, the closed tracks of request b, the reasons of request e, the mark of
+-- request f and the lists of request g: one table under one statement. The statement is made of the functions' own relations, so
+-- that each line says what a function replies and writes. `table-right` in proofs/TableRight.antt proves it.
 use Prim.Native.Nat.{ℕ}
 use mathlib.Core.Logic.{_↔_}
 use mathlib.Core.List.{List, [], _∷_}
@@ -8,7 +8,9 @@ use lib.IntN.{ℤ, pos, negsuc}
 use lib.ListN.{replicate}
 use Rattle.rules.specs.Limits.{mostWeight}
 use Rattle.rules.specs.Paper.{Reply, accepted, refusal}
-use Rattle.rules.specs.declared.Refusal.the-variants.{BadBox, NoWalk, BoxMisses}
+use Rattle.rules.specs.declared.Refusal.{Refusal}
+use Rattle.rules.specs.declared.Refusal.the-variants.{RowTooShort, CountsDisagree, BadBox, NoWalk, BoxMisses}
+use Rattle.scan.specs.Ascii.{bytes}
 use Rattle.walks.specs.Walk.{WalkBy}
 use Rattle.walks.specs.Rows.{rows, network}
 use Rattle.walks.specs.Through.{InS}
@@ -18,16 +20,18 @@ use Rattle.reasons.specs.Reason.{Reason, closed, cut-off, longer, tied, on-rout
 use Rattle.reasons.specs.Paper as reasons
 use Rattle.reasons.specs.Says.{WhySays}
 use Rattle.boxwork.specs.Says.{BuildSays, CheckSays, UpdateSays}
-use Rattle.worked.specs.Plans.{Plan, hall, reweightedHall, closedHall, cutHall, shutHall, oneWay, zeros, behind, west, triangle, detour, closedTriangle, bridge, liftedBridge, hallBoxes, ledBoxes, closedBoxes, raisedBoxes, wideBoxes, flatBoxes, fullBoxes, treeBoxes, triangleBoxes, mendedBoxes, blank, route}
+use Rattle.daylist.specs.Replies.{noRoute}
+use Rattle.daylist.specs.Says.{DaySays}
+use Rattle.worked.specs.Plans.{Plan, hall, reweightedHall, closedHall, cutHall, shutHall, oneWay, zeros, behind, west, triangle, detour, closedTriangle, bridge, liftedBridge, hallBoxes, ledBoxes, closedBoxes, raisedBoxes, wideBoxes, flatBoxes, fullBoxes, treeBoxes, triangleBoxes, mendedBoxes, blank, route, answers}
 
--- a reply, with the route or weight row, the row of closures and the box row afterwards, where the call may write them
+-- a reply, with the route, weight or answer row, the row of closures and the box row afterwards, where the call may write them
 pub record Told : Type 0 where
   pub reply : Reply
   pub numbers : List ℕ
   pub closures : List ℕ
   pub boxes : List ℤ
 
--- A call of one of the functions; searches are lent `route`
+-- A call of one of the functions; searches are lent `route`, and lists `answers`
 pub data Call : Type 0 where
   search : (plan : Plan) (source target : ℕ) → Call
   boxed : (plan : Plan) (boxes : List ℤ) (source target : ℕ) → Call
@@ -35,6 +39,7 @@ pub data Call : Type 0 where
   check : (plan : Plan) (boxes : List ℤ) → Call
   update : (plan : Plan) (boxes : List ℤ) (arc weight closure : ℕ) → Call
   why : (plan : Plan) (source target arc : ℕ) → Call
+  day : (plan : Plan) (boxes : List ℤ) (text : List ℕ) → Call
 
 -- the call replies and writes this
 abbrev pub Says : Call → Told → Type 0
@@ -45,6 +50,7 @@ Says (check p boxes) z = CheckSays (p .nodes) (p .arcs) (p .rows) (p .x) (p .y) 
 Says (update p boxes arc weight closure) z =
     UpdateSays (p .nodes) (p .arcs) (p .rows) (p .x) (p .y) boxes arc weight closure (z .reply) (rows (p .rows .tails) (p .rows .heads) (z .numbers) (z .closures)) (z .boxes)
 Says (why p s t arc) z = WhySays (p .nodes) (p .arcs) (p .rows) s t arc (z .reply)
+Says (day p boxes text) z = DaySays text (p .nodes) (p .arcs) (p .rows) (p .x) (p .y) boxes answers (z .reply) (z .numbers)
 
 -- A line of the table
 pub data Case : Type 0 where
@@ -91,6 +97,12 @@ writes weights closures boxes = record { reply = accepted []; numbers = weights;
 
 abbrev because : Reason → Told
 because r = record { reply = reasons.told r; numbers = []; closures = []; boxes = [] }
+
+abbrev ran : ℕ → ℕ → ℕ → List ℕ → Told
+ran found none sum row = record { reply = accepted (found ∷ none ∷ sum ∷ []); numbers = row; closures = []; boxes = [] }
+
+abbrev refused : Refusal → Told
+refused r = record { reply = refusal r; numbers = answers; closures = []; boxes = [] }
 
 -- ---- The table
 
@@ -185,6 +197,14 @@ table =
     -- The test of request d, run on the mark: the arc may not be used, so 2 to 1 is 12; and check misses node 1.
     ∷ call (boxed oneWay (pos 1 ∷ pos 0 ∷ pos 1 ∷ pos 0 ∷ []) 2 1) (noWalk 1 route)
     ∷ call (check oneWay (pos 1 ∷ pos 0 ∷ pos 1 ∷ pos 0 ∷ [])) (misses 1 1)
+    -- Request g. Three queries, each with a route; the row's other places are kept.
+    ∷ call (day hall hallBoxes (bytes "p aux sp p2p 3\nq 1 4\nq 4 2\nq 1 1\n")) (ran 3 0 13 (6 ∷ 7 ∷ 0 ∷ replicate 253 7))
+    -- With arcs 1, 3 and 5 closed there is none from 1 to 4: the mark, which is no part of the sum.
+    ∷ call (day shutHall hallBoxes (bytes "p aux sp p2p 2\nq 1 4\nq 4 1\n")) (ran 1 1 4 (noRoute ∷ 4 ∷ replicate 254 7))
+    -- No query at all. A query beyond K, and a box row that is too short: nothing is written.
+    ∷ call (day hall hallBoxes (bytes "p aux sp p2p 0\n")) (ran 0 0 0 answers)
+    ∷ call (day hall hallBoxes (bytes "p aux sp p2p 1\nq 1 4\nq 1 2\n")) (refused (CountsDisagree 3))
+    ∷ call (day hall triangleBoxes (bytes "p aux sp p2p 1\nq 1 4\n")) (refused RowTooShort)
     ∷ []
 
 -- THE STATEMENT of the table: every line is right

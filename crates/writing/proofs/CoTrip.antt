@@ -40,8 +40,8 @@ use Rattle.scan.specs.Line.{isComment}
 use Rattle.writing.specs.Plain.{nodesOf, Ascending, PlainCo}
 use Rattle.scan.proofs.WrittenLaws.{Without, more, lines-closed, closed-lines, last-closed, listed-long, listed-at, listed-map, map-listed}
 use Rattle.scan.proofs.FormLaws.{uncommented}
-use Rattle.dimacs.proofs.FormLaws.{node-clear, co-clear, co-spelt, node-spelt, co-written, node-written, co-read, node-read}
-use Rattle.dimacs.proofs.BeginLaws.{open-line, read-all, begun, in-order, lines-of}
+use Rattle.writing.proofs.FormLaws.{node-clear, co-clear, co-spelt, node-spelt, co-written, node-written, co-read, node-read}
+use Rattle.writing.proofs.BeginLaws.{open-line, read-all, begun, in-order, lines-of}
 use Rattle.writing.proofs.LengthLaws.{co-most}
 use Rattle.writing.proofs.GrTrip.{line-clear, clear-listed, together}
 

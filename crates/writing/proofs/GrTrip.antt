@@ -36,8 +36,8 @@ use Rattle.scan.specs.Line.{isComment}
 use Rattle.writing.specs.Plain.{PlainGr}
 use Rattle.scan.proofs.WrittenLaws.{Without, without-both, Clear, empty, more, lines-closed, without-spread, closed-lines, last-closed, listed-long, listed-at, listed-map, map-listed}
 use Rattle.scan.proofs.FormLaws.{word-1, uncommented}
-use Rattle.dimacs.proofs.FormLaws.{arc-clear, gr-clear, arc-spelt, gr-spelt, arc-written, gr-written, arc-read, gr-read}
-use Rattle.dimacs.proofs.BeginLaws.{open-line, read-all, begun, in-order, lines-of}
+use Rattle.writing.proofs.FormLaws.{arc-clear, gr-clear, arc-spelt, gr-spelt, arc-written, gr-written, arc-read, gr-read}
+use Rattle.writing.proofs.BeginLaws.{open-line, read-all, begun, in-order, lines-of}
 use Rattle.writing.proofs.LengthLaws.{gr-most}
 
 -- ---- the lines of a text that is written

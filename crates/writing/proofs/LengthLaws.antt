@@ -17,7 +17,7 @@ use Rattle.dimacs.specs.Accepted.{GrLimits, CoLimits}
 use Rattle.walks.specs.Rows.{openRows}
 use Rattle.writing.specs.Text.{arcText, grText, nodeText, coText}
 use Rattle.scan.proofs.DecimalLaws.{decimal-long}
-use Rattle.dimacs.proofs.FormLaws.{arc-spelt, gr-spelt, co-spelt, node-spelt}
+use Rattle.writing.proofs.FormLaws.{arc-spelt, gr-spelt, co-spelt, node-spelt}
 
 -- ---- lines after lines
 

@@ -1,3 +1,6 @@
+pub mod FormLaws
+pub mod TextLaws
+pub mod BeginLaws
 pub mod LengthLaws
 pub mod GrTrip
 pub mod CoTrip

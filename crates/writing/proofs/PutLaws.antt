@@ -5,7 +5,7 @@ use mathlib.Core.List.{List, [], _∷_, _++_, append-assoc, append-nil}
 use Rattle.scan.specs.Written.{spread, lineText, closed}
 use Rattle.dimacs.specs.Gr.{grProblem, grArc}
 use Rattle.dimacs.specs.Co.{coProblem, coNode}
-use Rattle.dimacs.proofs.FormLaws.{arc-spelt, gr-spelt, co-spelt, node-spelt}
+use Rattle.writing.proofs.FormLaws.{arc-spelt, gr-spelt, co-spelt, node-spelt}
 
 line-1 : (u : List ℕ) → (u ++ []) ++ (10 ∷ []) ≡ u ++ (10 ∷ [])
 line-1 u = ap (λ (t : List ℕ). t ++ (10 ∷ [])) (append-nil u)

@@ -1,49 +1,43 @@
 -- `boxes::list` meets its contract.
-use mathlib.Core.Path.{sym}
 use native.Mathlib.Omega.{arith}
-use lib.Seq.{length-take-le}
-use Rattle.wording.specs.Refusals.{placeLine}
-use Rattle.dimacs.proofs.Accepted.{read-gr-limits}
-use Rattle.boxes.specs.Prints.{unreadLine}
-use Rattle.boxes.proofs.PrintsLaws.{gr-none, gr-said, gr-on}
+use mathlib.Core.List.{_++_}
+use Rattle.scan.specs.Ascii.{bytes}
+use Rattle.listing.specs.Listing.{listing}
+use Rattle.loading.specs.Loading.{troubleText}
+use Rattle.boxes.specs.Prints.{graph, places, listed}
 use borrow.Author.Needs.{needs}
 use Rattle.boxes.proofs.list.Statement.{statement}
 use Rattle.boxes.proofs.list.Tie as tie
 
+put-listing-requires : tie.Need-put-listing-requires
+put-listing-requires c κs =
+    let small = rw (c .before .before .before .before .before .before .loaded .given .1) at (c .before .before .before .before .before .before .before .before .before .before .before .before .before .before .before .load .ensures .1) in
+    (small, omega (arith, small, c .before .before .before .before .before .before .before .before .before .before .before .before .before .before .tails2 .given), omega (arith, small, c .before .before .before .before .before .before .before .before .before .before .before .before .before .heads2 .given), omega (arith, small, c .before .before .before .before .before .before .before .before .before .before .before .before .weights2 .given), omega (arith, small, c .before .before .before .before .before .before .before .before .boxes2 .given))
+
 returns : tie.Need-returns
 returns c =
-    (record { text = unreadLine; says = gr-none _ (c .before .before .enum-told .given .1); puts = c .put-unread .ensures .0 }, omega arith)
-
-slice-aggregate-read-gr : tie.Need-slice-aggregate-read-gr
-slice-aggregate-read-gr c =
-    sym (length-take-le _ _ (rw (c .before .before .graph .given .1) at (c .before .before .before .before .before .before .pre .0)))
-
-list-with-places-requires : tie.Need-list-with-places-requires
-list-with-places-requires c κs =
-    let read = rw (c .before .before .before .before .before .before .reply .given .1) at (c .before .before .before .before .before .before .before .before .before .before .before .before .read-gr .ensures) in
-    (read-gr-limits _ _ _ _ _ _ _ _ _ _ _ read .arcs, search needs)
+    (record { text = listing _ _ _ _ _; says = listed (rw (c .before .before .before .before .before .before .before .loaded .given .1) at (c .before .before .before .before .before .before .before .before .before .before .before .before .before .before .before .before .load .ensures .0)); puts = c .put-listing .ensures .0 }, omega arith)
 
 returns-2 : tie.Need-returns-2
+unfolding bytes
 returns-2 c =
-    let read = rw (c .before .before .before .before .before .before .before .reply .given .1) at (c .before .before .before .before .before .before .before .before .before .before .before .before .before .read-gr .ensures) in
-    let rest = c .list-with-places .ensures .0 in
-    (record { text = rest .text; says = gr-on _ (c .before .before .before .before .before .before .before .before .before .before .before .before .before .before .before .before .before .before .before .before .graph .given .1) read (rest .says); puts = rest .puts }, omega arith)
+    (record { text = troubleText _ ++ bytes "\n"; says = graph (rw (c .before .before .before .before .loaded2 .given .1) at (c .before .before .before .before .before .before .before .before .before .before .before .before .before .load .ensures .0)); puts = c .put-trouble .ensures .0 }, omega arith)
 
 returns-3 : tie.Need-returns-3
+unfolding bytes
 returns-3 c =
-    let read = rw (c .before .before .before .reply2 .given .1) at (c .before .before .before .before .before .before .before .before .before .read-gr .ensures) in
-    (record { text = placeLine _; says = gr-said _ (c .before .before .before .before .before .before .before .before .before .before .before .before .before .before .before .before .graph .given .1) read; puts = c .put-place .ensures .0 }, omega arith)
+    (record { text = troubleText _ ++ bytes "\n"; says = places (rw (c .before .before .before .before .loaded3 .given .1) at (c .before .before .before .before .before .before .before .before .before .before .before .before .before .load .ensures .0)); puts = c .put-trouble2 .ensures .0 }, omega arith)
 
 pub list-spec : {M : Type 1} → statement M
 list-spec =
     tie.close
     (tie.spec
-    (λ c. search needs) (λ c. search needs) (λ c κs. search needs)
+    (λ c. search needs) (λ c. search needs) (λ c. search needs) (λ c. search needs) (λ c. search needs) (λ c. search needs)
+    (λ c. search needs) (λ c κs. search needs) (λ c. search needs) (λ c. search needs) (λ c. search needs)
+    (λ c. search needs) (λ c. search needs) (λ c. search needs)
+    put-listing-requires
     returns
-    slice-aggregate-read-gr
-    (λ c. search needs) (λ c. search needs) (λ c. search needs) (λ c. search needs) (λ c κs. search needs)
-    (λ c. search needs)
-    list-with-places-requires
+    (λ c. search needs) (λ c. search needs) (λ c κs. search needs)
     returns-2
-    (λ c. search needs) (λ c κs. search needs)
+    (λ c. search needs) (λ c. search needs) (λ c κs. search needs)
     returns-3)

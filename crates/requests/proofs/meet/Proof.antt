@@ -1,7 +1,7 @@
 -- `requests::meet` meets its contract.
 use native.Mathlib.Omega.{arith}
 use Rattle.desk.specs.Requests.{Meets}
-use Rattle.desk.proofs.RequestLaws.{met-case, met, met-any}
+use Rattle.desk.proofs.RequestLaws.{met-case, met}
 use borrow.Author.Needs.{needs}
 use Rattle.requests.proofs.meet.Statement.{statement}
 use Rattle.requests.proofs.meet.Tie as tie
@@ -18,22 +18,14 @@ returns-3 c =
 
 returns-4 : tie.Need-returns-4
 returns-4 c =
-    (met-case (c .before .before .before .before .before .before .before .before .before .enum-told .given .1) (c .before .before .before .before .graph .ensures .0), omega arith)
+    (met-case (c .before .before .before .before .before .before .before .before .request4 .given .1) (c .before .before .write-row .ensures .0), omega arith)
 
 returns-5 : tie.Need-returns-5
 returns-5 c =
-    (met-case (c .before .before .before .before .before .before .enum-told2 .given .1) (c .before .places .ensures .0), omega arith)
+    (met-case (c .before .before .before .before .before .before .before .before .before .before .before .request5 .given .1) (c .before .before .before .before .before .call-on .ensures .0), omega arith)
 
 returns-6 : tie.Need-returns-6
-returns-6 c =
-    (met-any tt (c .before .before .before .before .before .before .before .before .before .before .before .request4 .given .1) (c .before .before .before .before .before .call-on .ensures .0), omega arith)
-
-returns-7 : tie.Need-returns-7
-returns-7 c =
-    (met-any tt (c .before .before .before .before .before .before .before .before .request5 .given .1) (c .before .before .write-row .ensures .0), omega arith)
-
-returns-8 : tie.Need-returns-8
-returns-8 c = (met (c .before .before .enum-told3 .given .1) Meets.help (c .put-help .ensures .0), omega arith)
+returns-6 c = (met (c .before .before .enum-told .given .1) Meets.help (c .put-help .ensures .0), omega arith)
 
 pub meet-spec : {M : Type 1} → statement M
 meet-spec =
@@ -49,9 +41,5 @@ meet-spec =
     returns-4
     (λ c. search needs) (λ c κs. search needs) (λ c. search needs) (λ c. search needs) (λ c. search needs)
     returns-5
-    (λ c. search needs) (λ c κs. search needs) (λ c. search needs) (λ c. search needs) (λ c. search needs)
-    returns-6
-    (λ c. search needs) (λ c κs. search needs) (λ c. search needs) (λ c. search needs) (λ c. search needs)
-    returns-7
     (λ c. search needs) (λ c κs. search needs)
-    returns-8)
+    returns-6)

@@ -1,52 +1,53 @@
 -- `wording::put_words` meets its contract.
+use Prim.Native.Nat.{ℕ, _≤_}
+use mathlib.Core.Path.{_≡_, ap, _∙_}
+use mathlib.Core.List.{[], map}
 use native.Mathlib.Omega.{arith}
-use borrow.Author.Tests.{eq-eqb, ne-eqb}
-use borrow.Author.Needs.{needs}
+use lib.ListN.{length, getD}
 use Rattle.scan.specs.Ascii.{bytes}
-use Rattle.wording.specs.Refusals.{wordsText}
-use Rattle.pages.proofs.PageLaws.{puts-both, puts-case, puts-if, puts-else}
+use Rattle.scan.specs.Pieces.{pieces, opening}
+use Rattle.pages.proofs.PageLaws.{puts-same, puts-both}
+use Rattle.wording.specs.Refusals.{patterns}
+use Rattle.wording.proofs.PatternLaws.{pattern-short, words-told}
+use borrow.Author.Needs.{needs}
 use Rattle.wording.proofs.put_words.Statement.{statement}
 use Rattle.wording.proofs.put_words.Tie as tie
 
--- the arms in their order
+-- the pattern is that of the refusal's line, and so it is short
+pattern-is : (c : tie.After-piece-at) → c .piece-at .result .now ≡ getD (map bytes patterns) (c .before .line-of .result) []
+unfolding pieces opening bytes
+pattern-is c = c .piece-at .ensures .0
+
+short : (c : tie.After-piece-at) → length (c .piece-at .result .now) ≤ 60
+short c = let e = ap (length {A = ℕ}) (pattern-is c) in let s = pattern-short (c .before .line-of .result) in omega (arith, e, s)
+
+put-part-requires : tie.Need-put-part-requires
+put-part-requires c κs = let s = short (c .before .before) in omega (arith, s)
+
+put-part-requires-2 : tie.Need-put-part-requires-2
+put-part-requires-2 c κs =
+    let s = short (c .before .before .before .before) in let l = ap (length {A = ℕ}) (c .before .before .before .after-first .ensures) in omega (arith, s, l, c .before .put-part .ensures .1)
+
+put-requires : tie.Need-put-requires
+put-requires c κs =
+    let s = short (c .before .before .before .before .before .before .before) in let l = ap (length {A = ℕ}) (c .before .before .before .before .before .before .after-first .ensures) in let m = ap (length {A = ℕ}) (c .after-first2 .ensures) in omega (arith, s, l, m, c .before .before .before .before .put-part .ensures .1, c .before .before .put-part2 .ensures .1)
+
+returns : tie.Need-returns
+returns c =
+    let s = short (c .before .before .before .before .before .before .before .before) in
+    let l = ap (length {A = ℕ}) (c .before .before .before .before .before .before .before .after-first .ensures) in
+    let m = ap (length {A = ℕ}) (c .before .after-first2 .ensures) in
+    let told = words-told _ (c .before .before .before .before .before .before .before .before .before .before .before .before .before .args .why) (c .before .before .before .before .before .before .before .before .before .before .before .before .told .ensures .0) (c .before .before .before .before .before .before .before .before .before .line-of .ensures) (pattern-is (c .before .before .before .before .before .before .before .before)) (c .before .before .before .before .before .before .before .after-first .ensures) (c .before .after-first2 .ensures) in
+    (puts-same told (puts-both (puts-both (c .before .before .before .before .before .put-part .ensures .0) (c .before .before .before .put-part2 .ensures .0)) (c .put .ensures)), omega (arith, s, l, m, c .before .before .before .before .before .put-part .ensures .1, c .before .before .before .put-part2 .ensures .1, c .put .ensures .end))
+
 pub put-words-spec : {M : Type 1} → statement M
-unfolding wordsText bytes
 put-words-spec =
     tie.close
     (tie.spec
-    (λ c. search needs) (λ c. search needs) (λ c κs. search needs)
-    (λ c. (puts-case wordsText (c .before .before .before .enum-told .given .1) (c .put .ensures), omega arith))
-    (λ c. search needs) (λ c. search needs) (λ c κs. search needs)
-    (λ c. (puts-case wordsText (c .before .before .before .enum-told2 .given .1) (c .put2 .ensures), omega arith))
-    (λ c. search needs) (λ c. search needs) (λ c. search needs) (λ c κs. search needs)
-    (λ c. (puts-case wordsText (c .before .before .before .before .before .why .given .1) (c .put-between .ensures .0), omega arith))
-    (λ c. search needs) (λ c. search needs) (λ c. search needs) (λ c κs. search needs)
-    (λ c. (puts-case wordsText (c .before .before .before .before .before .why2 .given .1) (c .put-between2 .ensures .0), omega arith))
-    (λ c. search needs) (λ c. search needs) (λ c κs. search needs)
-    (λ c. (puts-case wordsText (c .before .before .before .before .before .why3 .given .1) (puts-if _ (eq-eqb _ 0 (c .before .before .before .if1 .taken)) (c .put3 .ensures)), omega arith))
-    (λ c. search needs) (λ c. search needs) (λ c κs. search needs)
-    (λ c. (puts-case wordsText (c .before .before .before .before .before .before .why3 .given .1) (puts-else _ (ne-eqb _ 0 (c .before .before .before .before .if1 .left)) (c .put-between3 .ensures .0)), omega arith))
-    (λ c. search needs) (λ c. search needs) (λ c κs. search needs)
-    (λ c. (puts-case wordsText (c .before .before .before .before .why4 .given .1) (c .put-after .ensures .0), omega arith))
-    (λ c. search needs) (λ c. search needs) (λ c. search needs) (λ c κs. search needs)
-    (λ c. (puts-case wordsText (c .before .before .before .before .before .why5 .given .1) (c .put-between4 .ensures .0), omega arith))
-    (λ c. search needs) (λ c. search needs) (λ c. search needs) (λ c κs. search needs)
-    (λ c. (puts-case wordsText (c .before .before .before .before .before .why6 .given .1) (c .put-between5 .ensures .0), omega arith))
-    (λ c. search needs) (λ c. search needs) (λ c. search needs) (λ c κs. search needs)
-    (λ c. (puts-case wordsText (c .before .before .before .before .before .why7 .given .1) (c .put-between6 .ensures .0), omega arith))
-    (λ c. search needs) (λ c. search needs) (λ c. search needs) (λ c κs. search needs)
-    (λ c. (puts-case wordsText (c .before .before .before .before .before .why8 .given .1) (c .put-between7 .ensures .0), omega arith))
-    (λ c. search needs) (λ c. search needs) (λ c κs. search needs)
-    (λ c. (puts-case wordsText (c .before .before .before .enum-told3 .given .1) (c .put4 .ensures), omega arith))
-    (λ c. search needs) (λ c. search needs) (λ c κs. search needs)
-    (λ c. (puts-case wordsText (c .before .before .before .before .why9 .given .1) (c .put-after2 .ensures .0), omega arith))
-    (λ c. search needs) (λ c. search needs) (λ c. search needs) (λ c κs. search needs) (λ c κs. search needs)
-    (λ c. (puts-case wordsText (c .before .before .before .before .before .before .before .why10 .given .1) (puts-both (c .before .before .put-between8 .ensures .0) (c .put-count .ensures .0)), omega arith))
-    (λ c. search needs) (λ c. search needs) (λ c. search needs) (λ c κs. search needs)
-    (λ c. (puts-case wordsText (c .before .before .before .before .before .why11 .given .1) (c .put-between9 .ensures .0), omega arith))
-    (λ c. search needs) (λ c. search needs) (λ c κs. search needs)
-    (λ c. (puts-case wordsText (c .before .before .before .before .why12 .given .1) (c .put-fault .ensures .0), omega arith))
-    (λ c. search needs) (λ c. search needs) (λ c κs. search needs)
-    (λ c. (puts-case wordsText (c .before .before .before .before .why13 .given .1) (c .put-fault2 .ensures .0), omega arith))
-    (λ c. search needs) (λ c. search needs) (λ c κs. search needs)
-    (λ c. (puts-case wordsText (c .before .before .before .before .why14 .given .1) (c .put-fault3 .ensures .0), omega arith)))
+    (λ c κs. search needs) (λ c. search needs) (λ c. search needs) (λ c. search needs) (λ c κs. search needs)
+    (λ c κs. search needs) (λ c κs. search needs)
+    put-part-requires
+    put-part-requires-2
+    (λ c κs. search needs)
+    put-requires
+    returns)

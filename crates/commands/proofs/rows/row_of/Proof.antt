@@ -27,4 +27,5 @@ row-of-spec =
     (λ c. named names Unknown (c .before .place-of .ensures) (c .match .keys7))
     (λ c. named names Unknown (c .before .place-of .ensures) (c .match .keys8))
     (λ c. named names Unknown (c .before .place-of .ensures) (c .match .keys9))
+    (λ c. named names Unknown (c .before .place-of .ensures) (c .match .keys10))
     (λ c. unnamed names Unknown (c .before .place-of .ensures) (c .match .rest)))

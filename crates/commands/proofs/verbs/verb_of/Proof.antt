@@ -18,7 +18,7 @@ here : (first second : List ℕ) (format : FormatName) {k n : ℕ} → format �
 unfolding verbOf
 here first second format {k} {n} f e h = ap (λ (x : FormatName). getD (allVerbs x) n NoVerb) f ∙ named (allVerbs (formatOf second)) NoVerb e h
 
-none : (first second : List ℕ) {k : ℕ} → k ≡ placeIn first verbNames → NoneBelow 16 k → NoVerb ≡ verbOf first second
+none : (first second : List ℕ) {k : ℕ} → k ≡ placeIn first verbNames → NoneBelow 17 k → NoVerb ≡ verbOf first second
 unfolding verbOf
 none first second e h = unnamed (allVerbs (formatOf second)) NoVerb e h
 
@@ -40,10 +40,11 @@ verb-of-spec =
     (λ c. here _ _ _ (c .before .before .before .format-of .ensures) (c .before .place-of .ensures) (c .match .keys10))
     (λ c. here _ _ _ (c .before .before .before .format-of .ensures) (c .before .place-of .ensures) (c .match .keys11))
     (λ c. here _ _ _ (c .before .before .before .format-of .ensures) (c .before .place-of .ensures) (c .match .keys12))
-    (λ c. ap (with Write) (sym (c .before .format .given .1)) ∙ here _ _ _ (c .before .before .before .before .before .before .format-of .ensures) (c .before .before .before .before .place-of .ensures) (c .before .before .before .match .keys13))
-    (λ c. ap (with Write) (sym (c .enum-told .given .1)) ∙ here _ _ _ (c .before .before .before .before .before .format-of .ensures) (c .before .before .before .place-of .ensures) (c .before .before .match .keys13))
-    (λ c. ap (with Save) (sym (c .before .format2 .given .1)) ∙ here _ _ _ (c .before .before .before .before .before .before .format-of .ensures) (c .before .before .before .before .place-of .ensures) (c .before .before .before .match .keys14))
-    (λ c. ap (with Save) (sym (c .enum-told2 .given .1)) ∙ here _ _ _ (c .before .before .before .before .before .format-of .ensures) (c .before .before .before .place-of .ensures) (c .before .before .match .keys14))
-    (λ c. here _ _ _ (c .before .before .before .format-of .ensures) (c .before .place-of .ensures) (c .match .keys15))
+    (λ c. here _ _ _ (c .before .before .before .format-of .ensures) (c .before .place-of .ensures) (c .match .keys13))
+    (λ c. ap (with Write) (sym (c .before .format .given .1)) ∙ here _ _ _ (c .before .before .before .before .before .before .format-of .ensures) (c .before .before .before .before .place-of .ensures) (c .before .before .before .match .keys14))
+    (λ c. ap (with Write) (sym (c .enum-told .given .1)) ∙ here _ _ _ (c .before .before .before .before .before .format-of .ensures) (c .before .before .before .place-of .ensures) (c .before .before .match .keys14))
+    (λ c. ap (with Save) (sym (c .before .format2 .given .1)) ∙ here _ _ _ (c .before .before .before .before .before .before .format-of .ensures) (c .before .before .before .before .place-of .ensures) (c .before .before .before .match .keys15))
+    (λ c. ap (with Save) (sym (c .enum-told2 .given .1)) ∙ here _ _ _ (c .before .before .before .before .before .format-of .ensures) (c .before .before .before .place-of .ensures) (c .before .before .match .keys15))
     (λ c. here _ _ _ (c .before .before .before .format-of .ensures) (c .before .place-of .ensures) (c .match .keys16))
+    (λ c. here _ _ _ (c .before .before .before .format-of .ensures) (c .before .place-of .ensures) (c .match .keys17))
     (λ c. none _ _ (c .before .place-of .ensures) (c .match .rest)))

@@ -1,7 +1,7 @@
 -- `console::answer::answer` meets its contract.
 use native.Mathlib.Omega.{arith}
 use Rattle.console.specs.Answers.{Answers, Answered}
-use Rattle.console.proofs.AnswerLaws.{lends-as, fresh-as, answered-as, answered-by, obeyed-as, saved-as}
+use Rattle.console.proofs.AnswerLaws.{lends-as, fresh-as, answered-as, answered-by, read-as, saved-as}
 use Rattle.console.proofs.HeardLaws.{lend-heard}
 use borrow.Author.Needs.{needs}
 use Rattle.console.proofs.answer.answer.Statement.{statement}
@@ -32,7 +32,12 @@ returns-5 c =
 
 returns-6 : tie.Need-returns-6
 returns-6 c =
-    (answered-as (c .before .before .before .before .before .before .before .before .before .before .before .before .before .before .before .before .if1 .left) (c .before .before .before .before .before .before .before .before .before .before .before .before .before .before .before .asked .ensures) (c .before .before .before .before .before .before .before .before .before .before .before .before .before .before .heard .ensures) (c .before .before .before .before .before .before .before .before .before .before .before .before .command4 .given .1) (obeyed-as (c .before .before .before .before .before .before .obey .ensures .0)), omega arith)
+    (answered-as (c .before .before .before .before .before .before .before .before .before .before .before .before .before .before .before .before .if1 .left) (c .before .before .before .before .before .before .before .before .before .before .before .before .before .before .before .asked .ensures) (c .before .before .before .before .before .before .before .before .before .before .before .before .before .before .heard .ensures) (c .before .before .before .before .before .before .before .before .before .before .before .before .command4 .given .1) (read-as (c .before .before .before .before .before .before .read .ensures .0)), omega arith)
+
+returns-7 : tie.Need-returns-7
+returns-7 c =
+    let met = c .before .before .before .before .before .before .meet .ensures .0 in
+    (answered-by (c .before .before .before .before .before .before .before .before .before .before .before .before .before .before .before .before .if1 .left) (c .before .before .before .before .before .before .before .before .before .before .before .before .before .before .before .asked .ensures) (c .before .before .before .before .before .before .before .before .before .before .before .before .before .before .heard .ensures) (c .before .before .before .before .before .before .before .before .before .before .before .before .command5 .given .1) (Answers.meets (met .says)) (met .puts), omega arith)
 
 pub answer-spec : {M : Type 1} → statement M
 answer-spec =
@@ -51,4 +56,6 @@ answer-spec =
     (λ c. search needs) (λ c κs. search needs) (λ c. search needs) (λ c. search needs) (λ c. search needs)
     returns-5
     (λ c. search needs) (λ c κs. search needs) (λ c. search needs) (λ c. search needs) (λ c. search needs)
-    returns-6)
+    returns-6
+    (λ c. search needs) (λ c κs. search needs) (λ c. search needs) (λ c. search needs) (λ c. search needs)
+    returns-7)

@@ -15,10 +15,16 @@ returns-2 : tie.Need-returns-2
 returns-2 c =
     c .line-co .ensures ∙ ap (λ (f : Format). heldLine (formatLine f (c .before .before .before .before .args .s .now))) (sym (c .before .enum-told2 .given .1))
 
+returns-3 : tie.Need-returns-3
+returns-3 c =
+    c .line-p2p .ensures ∙ ap (λ (f : Format). heldLine (formatLine f (c .before .before .before .before .args .s .now))) (sym (c .before .enum-told3 .given .1))
+
 pub line-of-spec : {M : Type 1} → statement M
 line-of-spec =
     tie.close
     (tie.spec
-    (λ c. search needs) (λ c κs. search needs) (λ c. search needs) (λ c κs. search needs)
+    (λ c. search needs) (λ c κs. search needs) (λ c. search needs) (λ c κs. search needs) (λ c. search needs)
+    (λ c κs. search needs)
     returns
-    returns-2)
+    returns-2
+    returns-3)

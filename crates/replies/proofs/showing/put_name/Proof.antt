@@ -13,7 +13,7 @@ use Rattle.replies.proofs.showing.put_name.Tie as tie
 returns : tie.Need-returns
 unfolding bytes
 returns c =
-    let name = c .before .name-at .ensures in
+    let name = c .before .piece-at .ensures in
     let here = ap (λ (s : Stretch). word (s .number) rowNames) (c .before .before .before .before .stretch .ensures .0) in
     (puts-same (name .0 ∙ here) (c .put .ensures), omega (arith, c .put .ensures .end, name .1))
 

@@ -1,0 +1,2 @@
+mod DayLaws
+pub mod Unique

@@ -1,0 +1,2 @@
+mod LoadingLaws
+pub mod Unique
