@@ -1,4 +1,4 @@
-//! Boxes: what they hold, the mark of request f, the set S(e), the tight box, and what a box misses.
+//! Boxes: what they hold, the mark of request f, the set S(e), the tight box, and what a test of an arc misses.
 
 use crate::network::{lengths, open, Arc};
 use crate::sizes::is_coordinate;
@@ -71,12 +71,10 @@ pub fn tight(n: usize, arcs: &[Arc], places: &[Place]) -> Vec<Rectangle> {
     all_s(n, arcs).into_iter().map(|s| s.into_iter().fold(Rectangle::MARK, grow)).collect()
 }
 
-/// The lowest arc whose box misses a node of its S(e), with the lowest node it misses.
-pub fn missed(n: usize, arcs: &[Arc], places: &[Place], boxes: &[Rectangle]) -> Option<(usize, usize)> {
-    for ((arc, s), rectangle) in arcs.iter().zip(all_s(n, arcs)).zip(boxes) {
-        if let Some(node) = s.into_iter().find(|t| !rectangle.holds(places[*t])) {
-            return Some((arc.number, node));
-        }
-    }
-    None
+/// The lowest arc that does not pass a test toward all of its S(e), with the lowest node at which it fails.
+pub fn missed(n: usize, arcs: &[Arc], passes: impl Fn(&Arc, usize) -> bool) -> Option<(usize, usize)> {
+    let fails = |(arc, s): (&Arc, Vec<usize>)| {
+        s.into_iter().find(|t| !passes(arc, *t)).map(|node| (arc.number, node))
+    };
+    arcs.iter().zip(all_s(n, arcs)).find_map(fails)
 }

@@ -1,13 +1,16 @@
 //! Cases for the console: files, and lines that need nothing from the lines of another case.
 
-use crate::console::ROWS;
+use crate::console::rows;
 use crate::files::joined;
 use crate::lent::Lent;
-use crate::plans::{add_surplus, ask, change_boxes, plan, some_bytes, spoil, Asked};
+use crate::plans::{
+    add_surplus, ask, change_boxes, change_index, change_masks, plan, some_bytes, spoil, Asked,
+};
 use crate::random::Random;
 use crate::sizes::{NODES, QUERIES, WEIGHT};
 use crate::texts::{co_text, damage, gr_text, p2p_text, some_queries, with_slips};
 use crate::writing::{write_co, write_gr};
+use crate::LANDED;
 
 /// The files that are there, and the lines that are typed. A file whose name ends in `/` is a folder.
 #[derive(Clone, Default)]
@@ -56,11 +59,16 @@ impl Case {
 
     /// Everything as at the start, then n, m and the rows as lent.
     pub fn lend(&mut self, lent: &Lent) {
+        self.lend_upto(lent, LANDED);
+    }
+
+    /// The same for a console of the requests up to a letter.
+    pub fn lend_upto(&mut self, lent: &Lent, upto: char) {
         self.say("fresh");
         self.say(format!("n {}", lent.n));
         self.say(format!("m {}", lent.m));
         let mut lent = lent.clone();
-        for row in ROWS {
+        for row in rows(upto) {
             let numbers = joined((row.of)(&mut lent));
             self.say(format!("lend {} {numbers}", row.name).trim_end());
         }
@@ -68,22 +76,41 @@ impl Case {
 
     /// Shows all lent places of all rows.
     pub fn show_rows(&mut self) {
-        for row in ROWS {
+        for row in rows(LANDED) {
             self.say(format!("show {}", row.name));
         }
     }
 }
 
-/// So many different calls with the numbers asked, in any order.
-fn some_calls(random: &mut Random, asked: &Asked, count: usize) -> Vec<String> {
-    let Asked { s, t, arc, weight, byte } = asked;
+/// So many different calls with the numbers asked, in any order, and the row that each writes, if any. What has two
+/// names is called by either.
+fn some_calls(random: &mut Random, asked: &Asked, count: usize) -> Vec<(String, Option<&'static str>)> {
+    let Asked { s, t, arc, weight, byte, mask } = asked;
+    let mut either =
+        |one: &str, other: &str| if LANDED < 'h' || random.once_in(2) { one } else { other }.to_string();
     let mut calls = vec![
-        "build".to_string(),
-        "check".to_string(),
-        format!("update {arc} {weight} {byte}"),
-        format!("search {s} {t}"),
-        format!("boxed {s} {t}"),
+        (either("build", "build boxes"), Some("boxes")),
+        (either("check", "check boxes"), None),
+        (format!("update {arc} {weight} {byte}"), Some("boxes")),
+        (format!("search {s} {t}"), Some("route")),
+        (either(&format!("boxed {s} {t}"), &format!("search {s} {t} boxes")), Some("route")),
+        ("build masks".to_string(), Some("masks")),
+        ("check masks".to_string(), None),
+        ("check boxes masks".to_string(), None),
+        (format!("search {s} {t} masks"), Some("route")),
+        (format!("search {s} {t} boxes masks"), Some("route")),
+        (format!("lamps {mask}"), Some("lamps")),
+        ("build index".to_string(), Some("order")),
+        (format!("search {s} {t} index"), Some("route")),
+        (format!("search {s} {t} boxes index"), Some("route")),
+        (format!("search {s} {t} masks index"), Some("route")),
+        (format!("search {s} {t} boxes masks index"), Some("route")),
     ];
+    calls.truncate(match LANDED {
+        ..='g' => 5,
+        'h' => 11,
+        _ => 16,
+    });
     (0..count).map(|_| calls.swap_remove(random.below(calls.len()))).collect()
 }
 
@@ -110,7 +137,8 @@ pub fn small(random: &mut Random, name: &str) -> Case {
     }
 }
 
-/// Calls on a small plan, spoilt in some things or in none. A driver asks why first; all rows are shown after each other call.
+/// Calls on a small plan, spoilt in some things or in none. A driver asks why first; after each other call the row is shown
+/// that it writes, or all of them, and at the end all.
 pub fn call_case(random: &mut Random) -> Case {
     let (nodes, arcs) = if random.once_in(50) { (60, 200) } else { (7, 14) };
     let (n, m) = (random.between(1, nodes), random.between(0, arcs));
@@ -118,6 +146,12 @@ pub fn call_case(random: &mut Random) -> Case {
     let mut asked = ask(random, &lent);
     let whys = some_whys(random, &lent);
     change_boxes(random, &mut lent);
+    if LANDED >= 'h' {
+        change_masks(random, &mut lent);
+    }
+    if LANDED >= 'i' && random.once_in(5) {
+        change_index(random, &mut lent);
+    }
     add_surplus(random, &mut lent);
     for _ in 0..random.pick(&[0, 0, 0, 1, 1, 2, 3]) {
         spoil(random, &mut lent, &mut asked);
@@ -126,9 +160,19 @@ pub fn call_case(random: &mut Random) -> Case {
     case.lend(&lent);
     case.say(format!("why {} {} {}", asked.s, asked.t, asked.arc));
     whys.iter().for_each(|line| case.say(line));
-    let count = random.pick(&[1, 2, 2, 3]);
-    for call in some_calls(random, &asked, count) {
+    let (count, all) = match LANDED {
+        ..='g' => (random.pick(&[1, 2, 2, 3]), true),
+        _ => (random.pick(&[4, 5, 6, 7, 8]), random.once_in(8)),
+    };
+    for (call, written) in some_calls(random, &asked, count) {
         case.say(call);
+        match written {
+            _ if all => case.show_rows(),
+            Some(row) => case.say(format!("show {row}")),
+            None => (),
+        }
+    }
+    if LANDED >= 'h' {
         case.show_rows();
     }
     case
@@ -158,9 +202,21 @@ pub fn update_case(random: &mut Random) -> Case {
         }
     }
     case.say("check");
+    if LANDED < 'h' {
+        for Asked { s, t, .. } in pairs {
+            case.say(format!("search {s} {t}"));
+            case.say(format!("boxed {s} {t}"));
+        }
+        return case;
+    }
+    // The masks are not those of the new network; the index is.
+    case.say("show masks");
+    case.say("check masks");
     for Asked { s, t, .. } in pairs {
-        case.say(format!("search {s} {t}"));
-        case.say(format!("boxed {s} {t}"));
+        for tests in ["", " boxes", " masks", " boxes masks"] {
+            let index = if LANDED < 'i' { "" } else { random.pick(&["", " index"]) };
+            case.say(format!("search {s} {t}{tests}{index}"));
+        }
     }
     case
 }
@@ -181,7 +237,7 @@ pub fn text_case(random: &mut Random, name: &str) -> Case {
     let own_rows = random.once_in(40);
     if own_rows {
         let mut lent = Lent { n: random.between(0, 9), m: 0, ..Lent::default() };
-        for row in ROWS {
+        for row in rows(LANDED) {
             // Half of what the console has is just what the readers need.
             let places = row.places as i64 / 2 + random.pick(&[-1, 0, 0, 0, 1, 2]);
             *(row.of)(&mut lent) = (0..places).map(|_| random.between(0, 9)).collect();
@@ -196,7 +252,7 @@ pub fn text_case(random: &mut Random, name: &str) -> Case {
         case.say(format!("n {}", random.pick(&[n, n, n + 1, 0, NODES, NODES + 1, 4_294_967_295])));
     }
     case.say(format!("co {name}.co"));
-    case.say(&some_calls(random, &asked, 1)[0]);
+    case.say(&some_calls(random, &asked, 1)[0].0);
     // Writing what was read.
     for line in ["write gr", "show text 160", "write co"] {
         case.say(line);
@@ -204,7 +260,7 @@ pub fn text_case(random: &mut Random, name: &str) -> Case {
     if own_rows {
         case.show_rows();
     } else {
-        for row in ROWS {
+        for row in rows(LANDED) {
             let some = match row.name {
                 "boxes" => 4 * m + 5,
                 "text" => 160,
@@ -349,7 +405,7 @@ pub fn write_case(random: &mut Random, name: &str) -> Case {
 
 /// Lines that are no commands, or that name numbers at the ends of their types.
 #[rustfmt::skip]
-pub const ODD_LINES: [&[u8]; 106] = [
+const ODD_LINES: [&[u8]; 106] = [
     b"", b" ", b"\t", b"\r", b"  ", b" n 1", b"n 1 ", b"n  1", b"n\t1", b"n 1\r", b"n\r", b" \r",
     b"N 1", b"nn 1", b"1", b"?", b"n", b"m", b"n 1 2", b"n 01", b"n -1", b"n -0", b"n +1", b"n x", b"n 0",
     b"m 4294967295", b"m 4294967296", b"n 18446744073709551617", b"m 1x",
@@ -370,10 +426,39 @@ pub const ODD_LINES: [&[u8]; 106] = [
     b"why 4294967296 x 1", b"why x 4294967296 1", b"why 4294967295 4294967295 4294967295", b"why 1 1 1 boxes", b"Why 1 1 1",
 ];
 
+/// The same of request h, and of i.
+#[rustfmt::skip]
+const ODD_TESTS: [&[u8]; 40] = [
+    b"build x", b"build boxes masks", b"build masks boxes", b"build boxes boxes", b"build masks 1", b"check x",
+    b"check masks boxes", b"check boxes masks masks", b"check masks masks", b"check boxes", b"check 1", b"build index",
+    b"search 1 1 x", b"search 1 1 masks boxes", b"search 1 1 boxes boxes", b"search 1 1 boxes masks 1", b"search 1 masks",
+    b"search x 1 masks", b"search x 1 y", b"search 1 4294967296 masks", b"search masks", b"boxed 1 1 masks", b"boxed 1 1 boxes",
+    b"search 1 1 Boxes", b"search 1 1 masks", b"search 1 1 boxes masks",
+    b"lamps", b"lamps x", b"lamps 01", b"lamps -1", b"lamps 4294967295", b"lamps 4294967296", b"lamps 1 1", b"lamps masks",
+    b"lend modules 4294967295", b"lend masks 4294967296", b"lend lamps -1", b"show modules 1025", b"show masks 4097",
+    b"show lamps 65",
+];
+
+#[rustfmt::skip]
+const ODD_INDEXES: [&[u8]; 20] = [
+    b"build index 1", b"build boxes index", b"build masks index", b"check index", b"check boxes index", b"index", b"search 1 1 index",
+    b"search 1 1 index boxes", b"search 1 1 index index", b"search 1 1 masks boxes index", b"search 1 1 boxes masks index",
+    b"search 1 index", b"search x 1 index", b"search 1 4294967296 boxes index", b"boxed 1 1 index", b"why 1 1 1 index",
+    b"lend offsets 4294967296", b"lend order -1", b"show offsets 1025", b"show order 4097",
+];
+
+/// The odd lines of the requests landed.
+pub fn odd_lines() -> Vec<&'static [u8]> {
+    let mut lines = ODD_LINES.to_vec();
+    lines.extend(ODD_TESTS.iter().filter(|_| LANDED >= 'h'));
+    lines.extend(ODD_INDEXES.iter().filter(|_| LANDED >= 'i'));
+    lines
+}
+
 /// A row of more numbers than the console has places for; the last is misspelt, which comes second.
 pub fn long_row(row: usize) -> Vec<u8> {
-    let numbers = " 0".repeat(ROWS[row].places);
-    format!("lend {}{numbers} x", ROWS[row].name).into_bytes()
+    let row = &rows(LANDED)[row];
+    format!("lend {}{} x", row.name, " 0".repeat(row.places)).into_bytes()
 }
 
 /// A call case with lines damaged, and with odd lines in between.
@@ -389,11 +474,11 @@ fn talk_case(random: &mut Random) -> Case {
             1 => line.extend([b' ', byte]),
             2 => line.truncate(place),
             3 => line.iter_mut().for_each(|byte| *byte = random.between(11, 255) as u8),
-            _ => case.lines.insert(at, random.pick(&ODD_LINES).to_vec()),
+            _ => case.lines.insert(at, random.pick(&odd_lines()).to_vec()),
         }
     }
     if random.once_in(20) {
-        case.lines.insert(1, long_row(random.below(ROWS.len())));
+        case.lines.insert(1, long_row(random.below(rows(LANDED).len())));
     }
     case
 }

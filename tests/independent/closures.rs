@@ -124,7 +124,7 @@ fn spoilt(tally: &mut Tally, random: &mut Random, mut lent: Lent, mut asked: Ask
     for _ in 0..random.between(1, 3) {
         spoil(random, &mut lent, &mut asked);
     }
-    let Asked { s, t, arc, weight, byte } = asked;
+    let Asked { s, t, arc, weight, byte, .. } = asked;
     let calls: [&dyn Fn(&mut Lent) -> bool; 4] = [
         &|lent| search(lent, s, t).is_ok(),
         &|lent| boxed(lent, s, t).is_ok(),

@@ -4,10 +4,14 @@ use crate::cases::{boxes_case, journeys_case, small, Case};
 use crate::columns::told_case;
 use crate::files;
 use crate::hall;
-use crate::limits::{limit_case, limit_day, limit_slips, limit_texts, limit_why, limit_writing, streams};
+use crate::limits::{
+    limit_case, limit_day, limit_index, limit_panel, limit_slips, limit_texts, limit_why, limit_writing,
+    streams,
+};
 use crate::random::Random;
 use crate::scratch::Scratch;
 use crate::shrink::{shrunk, told};
+use crate::LANDED;
 use std::io::{Read, Write};
 use std::path::PathBuf;
 use std::process::{Child, ChildStdin, Command, Stdio};
@@ -259,6 +263,12 @@ fn all_agree(
     comparison.compare(console, &[limit_writing()])?;
     comparison.compare(console, &[limit_slips()])?;
     comparison.compare(console, &[limit_day()])?;
+    if LANDED >= 'h' {
+        comparison.compare(console, &[limit_panel()])?;
+    }
+    if LANDED >= 'i' {
+        comparison.compare(console, &[limit_index()])?;
+    }
     comparison.tell("cases at the limits");
     for _ in 0..count / SMALL_PER_START {
         comparison.compare(boxes, &[boxes_case(random)])?;

@@ -2,8 +2,11 @@
 
 use crate::calls;
 use crate::files::{joined, Folder};
+use crate::index::build_index;
+use crate::judging::Tests;
 use crate::lent::Lent;
 use crate::lists::{run_day, Day};
+use crate::masks;
 use crate::network::Found;
 use crate::refusals::Refusal;
 use crate::text::{number, read_co, read_gr, signed_number};
@@ -48,7 +51,7 @@ pub struct Row {
 }
 
 #[rustfmt::skip]
-pub const ROWS: [Row; 10] = [
+static ROWS: [Row; 15] = [
     Row { name: "tails", places: 4_096, kind: Kind::Count, of: |lent| &mut lent.tails },
     Row { name: "heads", places: 4_096, kind: Kind::Count, of: |lent| &mut lent.heads },
     Row { name: "weights", places: 4_096, kind: Kind::Count, of: |lent| &mut lent.weights },
@@ -59,7 +62,21 @@ pub const ROWS: [Row; 10] = [
     Row { name: "text", places: 40_960, kind: Kind::Byte, of: |lent| &mut lent.text },
     Row { name: "closed", places: 4_096, kind: Kind::Byte, of: |lent| &mut lent.closed },
     Row { name: "answers", places: 512, kind: Kind::Count, of: |lent| &mut lent.answers },
+    Row { name: "modules", places: 1_024, kind: Kind::Count, of: |lent| &mut lent.modules },
+    Row { name: "masks", places: 4_096, kind: Kind::Count, of: |lent| &mut lent.masks },
+    Row { name: "lamps", places: 64, kind: Kind::Count, of: |lent| &mut lent.lamps },
+    Row { name: "offsets", places: 1_024, kind: Kind::Count, of: |lent| &mut lent.offsets },
+    Row { name: "order", places: 4_096, kind: Kind::Count, of: |lent| &mut lent.order },
 ];
+
+/// The rows of a console of the requests up to a letter.
+pub fn rows(upto: char) -> &'static [Row] {
+    match upto {
+        ..='g' => &ROWS[..10],
+        'h' => &ROWS[..13],
+        _ => &ROWS,
+    }
+}
 
 /// Why a line is no command. Of several faults the first in this list is told;
 /// only the two kinds of bad numbers are judged word by word, from left to right.
@@ -94,15 +111,31 @@ pub const FAULT_WORDS: [&str; 11] = [
 ];
 
 #[rustfmt::skip]
-const COMMANDS: [&[u8]; 15] = [
+const COMMANDS: [&[u8]; 16] = [
     b"n", b"m", b"lend", b"show", b"gr", b"co", b"p2p", b"build", b"check", b"update", b"search", b"boxed",
-    b"why", b"fresh", b"help",
+    b"why", b"lamps", b"fresh", b"help",
 ];
 
-pub const HELP: &str =
-    "commands: n N, m M, lend ROW VALUES, show ROW, show ROW K, gr FILE, co FILE, p2p FILE, build, check, \
-    update ARC WEIGHT BYTE, search S T, boxed S T, why S T ARC, write gr, write co, save gr FILE, save co FILE, \
-    fresh, help; rows: tails, heads, weights, x, y, boxes, route, text, closed, answers";
+/// What `help` replies in a console of the requests up to a letter.
+#[rustfmt::skip]
+pub fn help(upto: char) -> &'static str {
+    match upto {
+        ..='g' => "commands: n N, m M, lend ROW VALUES, show ROW, show ROW K, gr FILE, co FILE, p2p FILE, build, check, \
+            update ARC WEIGHT BYTE, search S T, boxed S T, why S T ARC, write gr, write co, save gr FILE, save co FILE, \
+            fresh, help; rows: tails, heads, weights, x, y, boxes, route, text, closed, answers",
+        'h' => "commands: n N, m M, lend ROW VALUES, show ROW, show ROW K, gr FILE, co FILE, p2p FILE, build, \
+            build masks, check, check masks, check boxes masks, update ARC WEIGHT BYTE, search S T, boxed S T, search S T masks, \
+            search S T boxes masks, lamps MASK, why S T ARC, write gr, write co, save gr FILE, save co FILE, \
+            fresh, help; rows: tails, heads, weights, x, y, boxes, route, text, closed, answers, modules, masks, \
+            lamps",
+        _ => "commands: n N, m M, lend ROW VALUES, show ROW, show ROW K, gr FILE, co FILE, p2p FILE, build, \
+            build masks, build index, check, check masks, check boxes masks, update ARC WEIGHT BYTE, search S T, boxed S T, \
+            search S T masks, search S T boxes masks, and index after any search, lamps MASK, \
+            why S T ARC, write gr, write co, save gr FILE, save co FILE, \
+            fresh, help; rows: tails, heads, weights, x, y, boxes, route, text, closed, answers, modules, masks, \
+            lamps, offsets, order",
+    }
+}
 
 /// A reply other than the one hoped for.
 enum No {
@@ -123,9 +156,8 @@ impl From<Refusal> for No {
     }
 }
 
-fn row_named(name: &[u8]) -> Result<&'static Row, Fault> {
-    const NAMED: &[Row] = &ROWS;
-    NAMED.iter().find(|row| row.name.as_bytes() == name).ok_or(Fault::NoRow)
+fn row_named(name: &[u8], upto: char) -> Result<&'static Row, Fault> {
+    rows(upto).iter().find(|row| row.name.as_bytes() == name).ok_or(Fault::NoRow)
 }
 
 /// A number of a row's kind; only a signed one may have a minus.
@@ -152,15 +184,27 @@ fn writer(of: &[u8]) -> Option<fn(&mut Lent) -> Result<i64, Refusal>> {
     }
 }
 
-/// The console's rows and numbers, and the folder in which it was started.
+/// The tests that words name. They stand in the order `boxes`, `masks`, `index`; any other list of words is no command's.
+fn tests(words: &[&[u8]], upto: char) -> Result<Tests, Fault> {
+    let mut rest = words.iter().peekable();
+    let mut next_is = |name: &[u8]| rest.next_if(|word| **word == name).is_some();
+    let (boxes, masks, index) = (next_is(b"boxes"), next_is(b"masks"), upto >= 'i' && next_is(b"index"));
+    if rest.next().is_some() {
+        return Err(Fault::NoCommand);
+    }
+    Ok(Tests { boxes, masks, index })
+}
+
+/// The console's rows and numbers, the last of the requests that it knows, and the folder in which it was started.
 pub struct Console {
     lent: Lent,
+    upto: char,
     pub folder: Folder,
 }
 
 impl Console {
-    pub fn started_in(folder: Folder) -> Console {
-        Console { lent: fresh(), folder }
+    pub fn started_in(folder: Folder, upto: char) -> Console {
+        Console { lent: fresh(), upto, folder }
     }
 
     /// The reply to one line, without its byte 10.
@@ -188,21 +232,21 @@ impl Console {
         if words.iter().any(|word| word.is_empty()) {
             return Err(No::Fault(Fault::EmptyWord));
         }
-        let (lent, folder) = (&mut self.lent, &mut self.folder);
+        let (lent, upto, folder) = (&mut self.lent, self.upto, &mut self.folder);
         match words[..] {
             [b"n", n] => lent.n = count(n)?,
             [b"m", m] => lent.m = count(m)?,
             [b"lend", name, ref numbers @ ..] => {
-                let row = row_named(name)?;
+                let row = row_named(name, upto)?;
                 if numbers.len() > row.places {
                     return Err(No::Fault(Fault::LongRow));
                 }
                 *(row.of)(lent) =
                     numbers.iter().map(|word| value(word, row.kind)).collect::<Result<_, _>>()?;
             }
-            [b"show", name] => return Ok(shown(name, (row_named(name)?.of)(lent))),
+            [b"show", name] => return Ok(shown(name, (row_named(name, upto)?.of)(lent))),
             [b"show", name, places] => {
-                let row = row_named(name)?;
+                let row = row_named(name, upto)?;
                 let places = count(places)? as usize;
                 let places = (row.of)(lent).get(..places).ok_or(Fault::FewerLent)?;
                 return Ok(shown(name, places));
@@ -216,13 +260,30 @@ impl Console {
                 let Day { found, none, sum } = run_day(lent, &folder.read(file)?)?;
                 return Ok(format!("ok {found} {none} {sum}"));
             }
-            [b"build"] => calls::build(lent)?,
-            [b"check"] => calls::check(lent)?,
+            // What is built, checked or asked for is part of the command's name.
+            [b"build", ref words @ ..] if words.is_empty() || upto >= 'h' => match tests(words, upto)? {
+                Tests::NONE | Tests::BOXES => calls::build(lent)?,
+                Tests::MASKS => calls::build_masks(lent)?,
+                Tests::INDEX => build_index(lent)?,
+                _ => return Err(No::Fault(Fault::NoCommand)),
+            },
+            [b"check", ref words @ ..] if words.is_empty() || upto >= 'h' => match tests(words, upto)? {
+                Tests::NONE => calls::check(lent)?,
+                tests if !tests.index => calls::check_by(lent, tests)?,
+                _ => return Err(No::Fault(Fault::NoCommand)),
+            },
             [b"update", arc, weight, byte] => {
                 calls::update(lent, count(arc)?, count(weight)?, value(byte, Kind::Byte)?)?
             }
-            [b"search", s, t] => return Ok(told(calls::search(lent, count(s)?, count(t)?)?)),
+            [b"search", s, t, ref words @ ..] if words.is_empty() || upto >= 'h' => {
+                let tests = tests(words, upto)?;
+                let reply = calls::search_by(lent, tests, count(s)?, count(t)?);
+                return Ok(told(if upto < 'j' { without_examined(reply) } else { reply }?));
+            }
             [b"boxed", s, t] => return Ok(told(calls::boxed(lent, count(s)?, count(t)?)?)),
+            [b"lamps", mask] if upto >= 'h' => {
+                return Ok(format!("ok {}", masks::lamps(lent, count(mask)?)?))
+            }
             [b"why", s, t, arc] => {
                 return Ok(format!("ok {}", calls::why(lent, count(s)?, count(t)?, count(arc)?)?));
             }
@@ -249,7 +310,8 @@ impl Console {
                 return Ok(format!("ok {length}"));
             }
             [b"fresh"] => *lent = fresh(),
-            [b"help"] => return Ok(HELP.to_string()),
+            [b"help"] => return Ok(help(upto).to_string()),
+            [b"lamps", ..] if upto < 'h' => return Err(No::Fault(Fault::NoCommand)),
             [command, ..] if COMMANDS.contains(&command) => return Err(No::Fault(Fault::WordCount)),
             _ => return Err(No::Fault(Fault::NoCommand)),
         }
@@ -260,7 +322,7 @@ impl Console {
 /// Everything as at the start: all rows 0 and wholly lent, n and m 0.
 fn fresh() -> Lent {
     let mut lent = Lent::default();
-    for row in ROWS {
+    for row in &ROWS {
         *(row.of)(&mut lent) = vec![0; row.places];
     }
     lent
@@ -272,8 +334,17 @@ fn shown(name: &[u8], numbers: &[i64]) -> String {
     format!("{name} {}", joined(numbers)).trim_end().to_string()
 }
 
+/// The reply to a search without the arcs examined.
+fn without_examined(reply: Result<Found, Refusal>) -> Result<Found, Refusal> {
+    reply.map(|found| Found { examined: None, ..found }).map_err(|mut refusal| {
+        refusal.values.truncate(1);
+        refusal
+    })
+}
+
 fn told(found: Found) -> String {
     let mut numbers = vec![found.length, found.route.len() as i64, found.settled as i64];
+    numbers.extend(found.examined.map(|examined| examined as i64));
     numbers.extend(found.route.iter().map(|arc| *arc as i64));
     format!("ok {}", joined(&numbers))
 }

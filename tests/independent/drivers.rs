@@ -1,6 +1,7 @@
 //! The claims of request e on small random networks, held to every walk that there is.
 
-use crate::calls::{judge_network, search, why};
+use crate::calls::{search, why};
+use crate::judging::judge_network;
 use crate::lent::Lent;
 use crate::limits::limit_why;
 use crate::network::{lengths, open};

@@ -1,7 +1,8 @@
 //! The hall plan of 01, word for word, with line 5 of the listing as request f has it.
 
 use crate::cases::Case;
-use crate::console::HELP;
+use crate::console::help;
+use crate::LANDED;
 
 pub const GR: &str = "c four block ends\np sp 4 6\na 1 2 3\na 2 3 2\na 1 3 5\na 3 4 1\na 1 4 9\na 4 1 4\n";
 
@@ -22,7 +23,7 @@ pub const DAY: &str = "c four journeys\np aux sp p2p 4\nq 1 4\nq 1 2\nq 4 2\nq 1
 pub const JOURNEYS: &str = "1 4 6\n1 2 3\n4 2 7\n1 1 0\n4 0 16\n";
 
 /// Its lines as console commands with the replies; the plan is read from `hall.gr` and `hall.co`, the list from `hall.p2p`.
-pub const TALK: [(&str, &str); 49] = [
+const TALK: [(&str, &str); 48] = [
     ("gr hall.gr", "ok 4 6"),
     ("co hall.co", "ok"),
     ("build", "ok"),
@@ -76,8 +77,44 @@ pub const TALK: [(&str, &str); 49] = [
     ("n 4", "ok"),
     ("co zero.co", "refused 5 2 (a number in line 2 is beyond its limits)"),
     ("co seven.co", "refused 16 2 5 (line 2, column 5: the field is misspelt)"),
-    ("help", HELP),
 ];
+
+/// What is said of it by request h.
+const PANEL: [(&str, &str); 12] = [
+    // The nodes in modules 1, 2, 3 and 32.
+    ("lend modules 1 2 3 32", "ok"),
+    ("build masks", "ok"),
+    ("show masks 6", "masks 2147483654 2147483653 2147483652 2147483651 0 7"),
+    ("check masks", "ok"),
+    ("check boxes masks", "ok"),
+    ("search 1 4 masks", "ok 6 2 4 3 4"),
+    ("search 1 2 masks", "ok 3 1 2 1"),
+    ("search 4 2 boxes masks", "ok 7 2 3 6 1"),
+    ("search 1 1 boxes masks", "ok 0 0 1"),
+    ("search 1 4 boxes", "ok 6 2 4 3 4"),
+    ("lamps 2147483654", "ok 3"),
+    ("show lamps 4", "lamps 2 3 32 0"),
+];
+
+/// What is said of it by requests i and j.
+const INDEX: [(&str, &str); 7] = [
+    // The index: arcs 1, 3 and 5 leave 1.
+    ("build index", "ok"),
+    ("show offsets 6", "offsets 0 3 4 5 6 0"),
+    ("show order 7", "order 1 3 5 2 4 6 0"),
+    ("search 1 4 index", "ok 6 2 4 5 3 4"),
+    ("search 4 2 boxes index", "ok 7 2 3 4 6 1"),
+    ("search 1 2 boxes masks index", "ok 3 1 2 3 1"),
+    ("search 1 1 index", "ok 0 0 1 0"),
+];
+
+/// The talk with a console of the requests up to a letter: what later ones say comes once the list has been run.
+pub fn talk(upto: char) -> Vec<(&'static str, &'static str)> {
+    let (first, rest) = TALK.split_at(15);
+    let panel = if upto >= 'h' { &PANEL[..] } else { &[] };
+    let index = if upto >= 'i' { &INDEX[..] } else { &[] };
+    [first, panel, index, rest, &[("help", help(upto))]].concat()
+}
 
 /// The talk as a case, with the files it names.
 pub fn case() -> Case {
@@ -92,7 +129,7 @@ pub fn case() -> Case {
     ];
     Case {
         files: files.map(|(name, text)| (name.to_string(), text.into())).to_vec(),
-        lines: TALK.map(|(line, _)| line.into()).to_vec(),
+        lines: talk(LANDED).iter().map(|(line, _)| line.as_bytes().to_vec()).collect(),
         unended: false,
     }
 }

@@ -18,6 +18,16 @@ pub struct Lent {
     pub closed: Vec<i64>,
     /// Of each query of a running list its length.
     pub answers: Vec<i64>,
+    /// Of each node its module.
+    pub modules: Vec<i64>,
+    /// Of each arc the mask of the modules that it leads to.
+    pub masks: Vec<i64>,
+    /// The modules of one mask.
+    pub lamps: Vec<i64>,
+    /// The index: for each node how many arcs have lower tails, and for the one after the last.
+    pub offsets: Vec<i64>,
+    /// The index: the arcs, grouped by their tails.
+    pub order: Vec<i64>,
 }
 
 /// Writes the first places of a row; the others keep their contents.

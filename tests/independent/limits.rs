@@ -1,12 +1,14 @@
 //! Cases at the limits: whole inputs, the largest networks, the largest texts.
 
 use crate::cases::Case;
-use crate::console::LINE_BYTES;
+use crate::console::{rows, LINE_BYTES};
+use crate::files::joined;
 use crate::lent::Lent;
 use crate::plans::{add_surplus, ask, plan};
 use crate::random::Random;
-use crate::sizes::{ARCS, COORDINATE, NODES, QUERIES, TEXT_BYTES, WEIGHT};
+use crate::sizes::{ARCS, COORDINATE, MODULES, NODES, QUERIES, TEXT_BYTES, WEIGHT};
 use crate::texts::{co_text, gr_text};
+use crate::{LANDED, LAST};
 
 /// Inputs in which the end or the length of a line matters.
 pub fn streams() -> Vec<Case> {
@@ -17,7 +19,7 @@ pub fn streams() -> Vec<Case> {
     let counts =
         |row: &str, places: usize| format!("lend {row}{}", " 4294967295".repeat(places)).into_bytes();
     let (help, show) = (|| b"help".to_vec(), || b"show boxes 3".to_vec());
-    let inputs = [
+    let mut inputs = vec![
         vec![],
         vec![vec![]],
         vec![help()],
@@ -38,6 +40,11 @@ pub fn streams() -> Vec<Case> {
         vec![counts("answers", 512), b"show answers".to_vec()],
         vec![counts("answers", 513), b"show answers 3".to_vec()],
     ];
+    // The rows that came after these.
+    for row in &rows(LANDED)[10..] {
+        inputs.push(vec![counts(row.name, row.places), format!("show {}", row.name).into_bytes()]);
+        inputs.push(vec![counts(row.name, row.places + 1), format!("show {} 3", row.name).into_bytes()]);
+    }
     let both_ends = |lines: &Vec<Vec<u8>>| {
         [false, true].map(|unended| Case { lines: lines.clone(), unended, ..Case::default() })
     };
@@ -67,14 +74,35 @@ pub fn limit_case(random: &mut Random, kind: usize) -> Case {
     for arc in [1, NODES - 1, NODES, ARCS, ARCS + 1] {
         case.say(format!("why 1 {NODES} {arc}"));
     }
+    if LANDED >= 'i' {
+        for call in ["search 1 512 index", "build index", "show offsets", "show order", "search 1 512 index"]
+        {
+            case.say(call);
+        }
+    }
     for call in ["build", "show boxes", "check"] {
         case.say(call);
+    }
+    if LANDED >= 'h' {
+        for call in ["check masks", "build masks", "show masks", "check masks", "check boxes masks"] {
+            case.say(call);
+        }
     }
     for _ in 0..3 {
         let asked = ask(random, &lent);
         case.say(format!("search {} {}", asked.s, asked.t));
         case.say(format!("boxed {} {}", asked.s, asked.t));
         case.say("show route");
+        let tests = ["masks", "boxes masks", "index", "boxes index", "masks index", "boxes masks index"];
+        let landed = match LANDED {
+            ..='g' => 0,
+            'h' => 2,
+            _ => 6,
+        };
+        for tests in &tests[..landed] {
+            case.say(format!("search {} {} {tests}", asked.s, asked.t));
+            case.say("show route");
+        }
         for arc in [asked.arc, random.between(1, ARCS), random.between(1, ARCS)] {
             case.say(format!("why {} {} {arc}", asked.s, asked.t));
         }
@@ -84,7 +112,127 @@ pub fn limit_case(random: &mut Random, kind: usize) -> Case {
         case.say(format!("update {arc} {weight} {byte}"));
     }
     case.say("check");
+    if LANDED >= 'h' {
+        case.say("check masks");
+    }
     case.show_rows();
+    case
+}
+
+/// The lamps of masks with one module, with all but one, with none and with all, in rows of about as many places as there
+/// must be; then the last node's module judged and the one behind it not, and a place too few in either row.
+pub fn limit_panel() -> Case {
+    let mut case = Case::default();
+    case.say("fresh");
+    let all = u32::MAX as i64;
+    for bit in 0..MODULES {
+        case.say(format!("lamps {}", 1_i64 << bit));
+        case.say(format!("lamps {}", all ^ 1_i64 << bit));
+        case.say("show lamps");
+    }
+    for places in [MODULES - 1, MODULES, MODULES + 1, 2 * MODULES] {
+        for mask in [0, 1, all] {
+            case.say(format!("lend lamps{}", " 77".repeat(places as usize)));
+            case.say(format!("lamps {mask}"));
+            case.say("show lamps");
+        }
+    }
+    let (n, m) = (NODES as usize, ARCS as usize);
+    case.say(format!("n {NODES}"));
+    case.say(format!("m {ARCS}"));
+    for row in ["tails", "heads"] {
+        case.say(format!("lend {row}{}", format!(" {NODES}").repeat(m)));
+    }
+    let calls = [
+        "build masks",
+        "check masks",
+        "check boxes masks",
+        "search 1 1 masks",
+        "search 512 1 boxes masks",
+        "search 1 513 masks",
+    ];
+    for (nodes, last, masks) in [
+        (n, MODULES, m),
+        (n, MODULES + 1, m),
+        (n + 1, MODULES + 1, m + 1),
+        (n - 1, MODULES, m),
+        (n, MODULES, m - 1),
+        (n, 0, m),
+    ] {
+        case.say(format!("lend modules{} {last}", " 32".repeat(nodes - 1)));
+        case.say(format!("lend masks{}", " 4294967295".repeat(masks)));
+        for call in calls {
+            case.say(call);
+        }
+    }
+    case.show_rows();
+    case
+}
+
+/// An index of the most nodes and arcs, in rows of about as many places as there must be, with its last numbers right and
+/// wrong; and one node or arc more, for which the rows are long enough.
+pub fn limit_index() -> Case {
+    let (n, m) = (NODES as usize, ARCS as usize);
+    let mut lent = Lent { n: NODES, m: ARCS, weights: vec![1; m], closed: vec![0; m], ..Lent::default() };
+    (lent.tails, lent.heads) = (0..ARCS).map(|e| (NODES - e % NODES, e % NODES + 1)).unzip();
+    lent.route = vec![0; n];
+    let mut case = Case::default();
+    for (offsets, order) in [(n, m), (n + 1, m - 1), (n + 1, m), (n + 2, m + 1)] {
+        (lent.offsets, lent.order) = (vec![7; offsets], vec![7; order]);
+        case.lend_upto(&lent, LAST);
+        for call in ["search 1 512 index", "build index", "show offsets", "show order", "search 1 512 index"]
+        {
+            case.say(call);
+        }
+    }
+    let last_offset = |last: i64| {
+        format!("lend offsets 0{} {last}", (1..NODES).map(|u| format!(" {}", 4 * u)).collect::<String>())
+    };
+    for last in [ARCS, ARCS - 1, ARCS + 1, 0] {
+        case.say(last_offset(last));
+        case.say("search 512 1 index");
+    }
+    case.say(last_offset(ARCS));
+    // The arcs that leave u are 513 - u and, 512 further on each time, three more.
+    let order: Vec<i64> =
+        (1..=NODES).flat_map(|u| (0..4).map(move |round| NODES + 1 - u + round * NODES)).collect();
+    for (at, other) in [(0, NODES), (0, 1), (m - 1, 1), (m - 1, order[m - 1])] {
+        let mut order = order.clone();
+        order[at] = other;
+        case.say(format!("lend order {}", joined(&order)));
+        case.say("search 512 1 index");
+    }
+    for line in [
+        "n 513",
+        "build index",
+        "search 1 1 index",
+        "n 512",
+        "m 2049",
+        "build index",
+        "search 1 1 index",
+        "m 0",
+        "build index",
+    ] {
+        case.say(line);
+    }
+    case.show_rows();
+    // Every arc leaves a node that is settled: with all open, with all closed that can be, and shut out by masks.
+    let round = |e: i64| (e % (NODES - 1) + 1, (e + 1) % (NODES - 1) + 1);
+    (lent.tails, lent.heads) = (0..ARCS).map(round).unzip();
+    (lent.modules, lent.masks) = (vec![1; n], vec![0; m]);
+    for closed in [0, 1] {
+        lent.closed[n..].fill(closed);
+        case.lend_upto(&lent, LAST);
+        for call in [
+            "build index",
+            "search 1 512 index",
+            "search 1 511 index",
+            "search 1 512 masks index",
+            "search 512 512 index",
+        ] {
+            case.say(call);
+        }
+    }
     case
 }
 

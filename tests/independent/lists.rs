@@ -1,6 +1,6 @@
 //! A day's running list: request g of 02.
 
-use crate::calls::{box_rows, holding, judge_boxes, judge_network, judge_places};
+use crate::judging::{judge_tested, Tests};
 use crate::lent::{fill, Lent};
 use crate::network::{open, search};
 use crate::refusals::Refusal;
@@ -23,12 +23,10 @@ pub type Answered = Vec<((usize, usize), Option<i64>)>;
 /// Answers each query in order: after the text's refusals those of a search with boxes, for which no route row is lent.
 pub fn answered(lent: &Lent, text: &[u8]) -> Result<Answered, Refusal> {
     let queries = read_p2p(text, lent)?;
-    let arcs = judge_network(lent, &box_rows(lent))?;
-    let places = judge_places(lent)?;
-    let boxes = judge_boxes(lent)?;
+    let tested = judge_tested(lent, Tests::BOXES, &[])?;
     let answer = |(s, t): (usize, usize)| {
-        let open = open(&holding(&arcs, &boxes, places[t]));
-        ((s, t), search(lent.n as usize, &open, s, t).ok().map(|found| found.length))
+        let found = search(lent.n as usize, &open(&tested.toward(t)), s, t);
+        ((s, t), found.ok().map(|found| found.length))
     };
     Ok(queries.into_iter().map(answer).collect())
 }

@@ -1,4 +1,4 @@
-//! The independent program: document 01 and requests a to g of 02 a second time, from their words alone, to compare the crates with.
+//! The independent program: document 01 and requests a to j of 02 a second time, from their words alone, to compare the crates with.
 //! It is built by: rustc -O --edition 2021 -o target/independent tests/independent/main.rs
 
 mod boxes;
@@ -8,15 +8,21 @@ mod closures;
 mod columns;
 mod compare;
 mod console;
+mod coverage;
 mod days;
 mod drivers;
 mod files;
 mod hall;
+mod index;
+mod indexed;
+mod judging;
 mod lent;
 mod limits;
 mod lists;
 mod marks;
+mod masks;
 mod network;
+mod panels;
 mod plans;
 mod random;
 mod reasons;
@@ -41,6 +47,12 @@ use std::fs::File;
 use std::io::{self, BufReader, Write};
 use std::path::Path;
 use std::process::ExitCode;
+
+/// The console's requests up to this letter; what is tried of later ones is the selftest alone.
+const LANDED: char = 'g';
+
+/// The last request that is written here.
+const LAST: char = 'j';
 
 const USAGE: &str = "\
 independent selftest                    checks this program itself
@@ -76,10 +88,12 @@ fn obey(words: &[&str]) -> Result<bool, Box<dyn std::error::Error>> {
     let mut out = io::stdout().lock();
     match *words {
         ["selftest"] => return Ok(selftest::run()),
-        ["expect", file] => {
-            converse(&mut Console::started_in(Folder::noting("")), BufReader::new(File::open(file)?), out)?
-        }
-        ["console"] => converse(&mut Console::started_in(Folder::real("")), io::stdin().lock(), out)?,
+        ["expect", file] => converse(
+            &mut Console::started_in(Folder::noting(""), LANDED),
+            BufReader::new(File::open(file)?),
+            out,
+        )?,
+        ["console"] => converse(&mut Console::started_in(Folder::real(""), LANDED), io::stdin().lock(), out)?,
         ["boxes"] => out.write_all(files::listing(Path::new("")).as_bytes())?,
         ["journeys"] => out.write_all(files::journeys(Path::new("")).as_bytes())?,
         ["read", "gr", file] => out.write_all(told(gr_read(file)).as_bytes())?,

@@ -1,7 +1,8 @@
 //! The claims of request f: all small boxes, alone and joined, and the boxes of small random networks.
 
 use crate::boxes::{all_s, Place, Rectangle};
-use crate::calls::{build, check, judge_network, judge_places, update};
+use crate::calls::{build, check, update};
+use crate::judging::{judge_network, judge_places};
 use crate::lent::Lent;
 use crate::plans::{ask, plan, Asked, NEAR_MARKS};
 use crate::random::Random;

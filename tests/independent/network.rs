@@ -18,11 +18,12 @@ pub fn open(arcs: &[Arc]) -> Vec<Arc> {
     arcs.iter().filter(|arc| !arc.closed).copied().collect()
 }
 
-/// What a search finds; the count of arcs is that of the route.
+/// What a search finds; the count of arcs is that of the route. The arcs examined are told by a search that goes by the index.
 #[derive(Clone, Debug, PartialEq, Eq)]
 pub struct Found {
     pub length: i64,
     pub settled: usize,
+    pub examined: Option<usize>,
     pub route: Vec<usize>,
 }
 
@@ -97,24 +98,30 @@ fn route(arcs: &[Arc], labels: &[Option<(i64, usize)>], s: usize, t: usize) -> V
     route
 }
 
-/// If t can be reached, one plus the number of nodes whose triple (d, k, node) comes before t's;
-/// otherwise the number of nodes that can be reached.
-fn settled(labels: &[Option<(i64, usize)>], t: usize) -> usize {
+/// The settled nodes: if t can be reached, t and the nodes whose triple (d, k, node) comes before t's;
+/// otherwise the nodes that can be reached.
+fn settled(labels: &[Option<(i64, usize)>], t: usize) -> Vec<usize> {
     let triple = |node: usize| labels[node].map(|(d, k)| (d, k, node));
+    let last = triple(t);
     let mut triples: Vec<_> = (1..labels.len()).filter_map(triple).collect();
-    triples.sort();
-    match triple(t) {
-        Some(last) => 1 + triples.iter().take_while(|before| **before < last).count(),
-        None => triples.len(),
-    }
+    triples.retain(|before| last.map_or(true, |last| *before <= last));
+    triples.into_iter().map(|(_, _, node)| node).collect()
 }
 
 /// The search from s to t in the network of these arcs.
 pub fn search(n: usize, arcs: &[Arc], s: usize, t: usize) -> Result<Found, Refusal> {
     let labels = labels(n, arcs, s);
-    let settled = settled(&labels, t);
+    let settled = settled(&labels, t).len();
     match labels[t] {
         None => refused(12, &[settled as i64]),
-        Some((length, _)) => Ok(Found { length, settled, route: route(arcs, &labels, s, t) }),
+        Some((length, _)) => Ok(Found { length, settled, examined: None, route: route(arcs, &labels, s, t) }),
     }
+}
+
+/// The arcs examined by the search from s to t in the network of the arcs `used`: the sum, over the settled nodes other than
+/// the target, of all arcs leaving them, whether they are used or not.
+pub fn examined(n: usize, all: &[Arc], used: &[Arc], s: usize, t: usize) -> usize {
+    let settled = settled(&labels(n, used, s), t);
+    let leaving = |u: &usize| all.iter().filter(|arc| arc.tail == *u).count();
+    settled.iter().filter(|u| **u != t).map(leaving).sum()
 }

@@ -1,18 +1,20 @@
-//! Random plans: networks, closures, places, boxes, lent rows with surplus, and what can be wrong with them.
+//! Random plans: networks, closures, places, boxes, modules, masks, indexes, lent rows with surplus, and what can be wrong with them.
 
 use crate::boxes::Rectangle;
-use crate::calls::build;
-use crate::console::{Kind, ROWS};
+use crate::calls::{build, build_masks};
+use crate::console::{rows, Kind, Row};
+use crate::index::build_index;
 use crate::lent::{fill, Lent};
 use crate::random::Random;
 use crate::sizes::*;
+use crate::{LANDED, LAST};
 
 /// The greatest number of an unsigned row, and the ends of a signed one.
 const FAR: i64 = u32::MAX as i64;
 const FAR_EAST: i64 = i32::MAX as i64;
 const FAR_WEST: i64 = i32::MIN as i64;
 
-/// A plan of n nodes and m arcs in rows of just the places needed, with tight boxes.
+/// A plan of n nodes and m arcs in rows of just the places needed, with tight boxes, built masks and the index.
 pub fn plan(random: &mut Random, n: i64, m: i64) -> Lent {
     let mut lent = Lent { n, m, ..Lent::default() };
     lent.route = (0..n).map(|_| random.between(0, 99)).collect();
@@ -22,8 +24,15 @@ pub fn plan(random: &mut Random, n: i64, m: i64) -> Lent {
     draw_weights(random, &mut lent);
     draw_closures(random, &mut lent);
     draw_places(random, &mut lent);
+    let mut later = random.apart();
+    lent.lamps = some_bytes(&mut later, MODULES as usize);
+    draw_modules(&mut later, &mut lent);
     lent.boxes = vec![0; 4 * m as usize];
     build(&mut lent).expect("a plan within the limits has boxes");
+    lent.masks = vec![0; m as usize];
+    build_masks(&mut lent).expect("a plan within the limits has masks");
+    (lent.offsets, lent.order) = (vec![0; n as usize + 1], vec![0; m as usize]);
+    build_index(&mut lent).expect("a plan within the limits has an index");
     lent
 }
 
@@ -101,6 +110,74 @@ fn draw_places(random: &mut Random, lent: &mut Lent) {
     }
 }
 
+/// All in one module; in few; in the first and the last; or in any.
+fn draw_modules(random: &mut Random, lent: &mut Lent) {
+    let one_module = random.between(1, MODULES);
+    let some = match random.below(4) {
+        0 => vec![one_module],
+        1 => vec![1, 2, 3],
+        2 => vec![1, MODULES - 1, MODULES],
+        _ => (1..=MODULES).collect(),
+    };
+    lent.modules = (0..lent.n).map(|_| random.pick(&some)).collect();
+}
+
+/// A mask of any modules, of all, of none, or of one.
+pub fn some_mask(random: &mut Random) -> i64 {
+    match random.below(6) {
+        0 => random.pick(&[0, FAR]),
+        1 => 1 << random.below(MODULES as usize),
+        2 => FAR ^ 1 << random.below(MODULES as usize),
+        _ => random.between(0, FAR),
+    }
+}
+
+/// Leaves the masks as built, or makes them larger, full, wholly random, empty here and there, or one of them without one
+/// of its modules.
+pub fn change_masks(random: &mut Random, lent: &mut Lent) {
+    let kind = random.below(7);
+    for mask in &mut lent.masks {
+        match kind {
+            0 => *mask |= some_mask(random),
+            1 => *mask = FAR,
+            2 => *mask = some_mask(random),
+            3 if random.once_in(2) => *mask = 0,
+            _ => (),
+        }
+    }
+    let lit: Vec<usize> =
+        (0..32 * lent.masks.len()).filter(|bit| lent.masks[bit / 32] >> (bit % 32) & 1 == 1).collect();
+    if kind == 4 && !lit.is_empty() {
+        let bit = random.pick(&lit);
+        lent.masks[bit / 32] ^= 1 << (bit % 32);
+    }
+}
+
+/// Makes the index another: with two arcs the other way round, with one of another number, with an offset moved, or the one of
+/// a network with another tail. With few arcs it may stay the same.
+pub fn change_index(random: &mut Random, lent: &mut Lent) {
+    let (n, m) = (lent.n as usize, lent.m as usize);
+    let (arc, node) = (random.below(m.max(1)), random.below(n + 1));
+    match random.below(5) {
+        0 if m > 1 => {
+            let other = if random.once_in(2) { (arc + 1) % m } else { random.below(m) };
+            lent.order.swap(arc, other);
+        }
+        1 if m > 0 => lent.order[arc] = random.pick(&[0, 1, lent.m, lent.m + 1, FAR]),
+        2 | 3 => {
+            let moved = lent.offsets[node] + random.pick(&[-1, 1]);
+            lent.offsets[node] = random.pick(&[moved.max(0), 0, lent.m, FAR]);
+        }
+        _ if m > 0 => {
+            let mut other = lent.clone();
+            other.tails[arc] = random.between(1, lent.n);
+            build_index(&mut other).expect("the other network is within the limits");
+            (lent.offsets, lent.order) = (other.offsets, other.order);
+        }
+        _ => (),
+    }
+}
+
 /// Leaves the boxes tight, or makes them enlarged, full, wholly random but well shaped, marks here and there
 /// or everywhere, or one of them smaller on one side.
 pub fn change_boxes(random: &mut Random, lent: &mut Lent) {
@@ -152,7 +229,13 @@ pub const NEAR_MARKS: [[i64; 4]; 18] = [
 
 /// Adds places after those needed, filled with numbers that would be refused if they were read.
 pub fn add_surplus(random: &mut Random, lent: &mut Lent) {
-    for row in ROWS {
+    let landed = rows(LANDED);
+    add_surplus_to(random, lent, landed);
+    add_surplus_to(&mut random.apart(), lent, &rows(LAST)[landed.len()..]);
+}
+
+fn add_surplus_to(random: &mut Random, lent: &mut Lent, rows: &[Row]) {
+    for row in rows {
         for _ in 0..random.below(4) {
             let number = match row.kind {
                 Kind::Count => FAR,
@@ -171,6 +254,7 @@ pub struct Asked {
     pub arc: i64,
     pub weight: i64,
     pub byte: i64,
+    pub mask: i64,
 }
 
 /// Numbers that a call on this plan takes, if it has an arc.
@@ -181,25 +265,38 @@ pub fn ask(random: &mut Random, lent: &Lent) -> Asked {
         arc: random.between(1, lent.m.max(1)),
         weight: random.pick(&[0, 1, 2, 7, WEIGHT]),
         byte: random.between(0, 1),
+        mask: some_mask(&mut random.apart()),
     }
 }
 
 /// Makes one thing wrong: a number handed in, a row's length, or a number in a row.
 pub fn spoil(random: &mut Random, lent: &mut Lent, asked: &mut Asked) {
+    spoil_upto(random, lent, asked, LANDED);
+}
+
+/// The same, of what a console of the requests up to a letter has.
+pub fn spoil_upto(random: &mut Random, lent: &mut Lent, asked: &mut Asked, upto: char) {
     let no_node = random.pick(&[0, (lent.n + 1).min(FAR), NODES + 1, FAR]);
     let no_arc = random.pick(&[0, (lent.m + 1).min(FAR), ARCS + 1, FAR]);
     let no_weight = random.pick(&[WEIGHT + 1, FAR]);
     let no_closure = random.pick(&[2, 3, 255]);
     let no_coordinate = random.pick(&[-COORDINATE - 1, COORDINATE + 1, FAR_EAST, FAR_WEST]);
-    match random.below(18) {
+    let kinds = match upto {
+        ..='g' => 18,
+        'h' => 20,
+        _ => 22,
+    };
+    match random.below(kinds) {
         0 => lent.n = no_node,
         1 => lent.m = no_arc,
         2 | 3 => {
-            let row = &ROWS[random.below(ROWS.len())];
+            let row = &rows(upto)[random.below(rows(upto).len())];
             let needed = match row.name {
-                "tails" | "heads" | "weights" | "closed" => lent.m,
+                "tails" | "heads" | "weights" | "closed" | "masks" | "order" => lent.m,
+                "offsets" => lent.n + 1,
                 "boxes" => 4 * lent.m,
                 "answers" => QUERIES,
+                "lamps" => MODULES,
                 _ => lent.n,
             };
             let kept = (needed - random.between(1, 2)).max(0);
@@ -235,7 +332,15 @@ pub fn spoil(random: &mut Random, lent: &mut Lent, asked: &mut Asked) {
         14 => asked.t = no_node,
         15 => asked.arc = no_arc,
         16 => asked.weight = no_weight,
-        _ => asked.byte = no_closure,
+        17 => asked.byte = no_closure,
+        18 | 19 => {
+            let no_module = random.pick(&[0, MODULES + 1, FAR]);
+            for _ in 0..random.between(1, 2) {
+                put(random, &mut lent.modules, no_module);
+            }
+        }
+        20 => put(random, &mut lent.offsets, no_arc),
+        _ => put(random, &mut lent.order, no_arc),
     }
 }
 

@@ -16,6 +16,11 @@ impl Random {
         bits ^ (bits >> 31)
     }
 
+    /// Other numbers, none being taken from these.
+    pub fn apart(&self) -> Random {
+        Random(!self.0)
+    }
+
     /// A number from 0 to `count` - 1.
     pub fn below(&mut self, count: usize) -> usize {
         (self.next() % count as u64) as usize

@@ -1,12 +1,13 @@
 //! The recorded cases, for comparing a console with a stored output.
 
-use crate::cases::{call_case, day_case, long_row, text_case, update_case, write_case, Case, ODD_LINES};
+use crate::cases::{call_case, day_case, long_row, odd_lines, text_case, update_case, write_case, Case};
 use crate::columns::told_case;
 use crate::console::LINE_BYTES;
 use crate::hall;
 use crate::random::Random;
 use crate::sizes::TEXT_BYTES;
-use crate::talks::{exchanges, talk_files, TALKS};
+use crate::talks::{exchanges, talk_files, talks};
+use crate::LANDED;
 
 /// The recorded cases: the hall plan, every refusal, every fault, lines with slips, cases from the seed, and the talks.
 pub fn recorded(seed: u64) -> Case {
@@ -25,7 +26,7 @@ pub fn recorded(seed: u64) -> Case {
     {
         case.say(line);
     }
-    for line in ODD_LINES {
+    for line in odd_lines() {
         case.say(line);
     }
     case.say(long_row(3));
@@ -52,7 +53,7 @@ pub fn recorded(seed: u64) -> Case {
         case.lines.extend(update_case(&mut random).lines);
     }
     case.files.extend(talk_files());
-    for (line, _) in TALKS.iter().flat_map(|talk| exchanges(talk)) {
+    for (line, _) in talks(LANDED).flat_map(exchanges) {
         case.say(line);
     }
     case.say(vec![b'x'; LINE_BYTES + 1]);

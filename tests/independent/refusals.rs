@@ -14,7 +14,7 @@ pub fn refused<T>(number: usize, values: &[i64]) -> Result<T, Refusal> {
 }
 
 /// The words for each number; `{0}` and `{1}` stand for the first and the second value.
-const WORDS: [&str; 18] = [
+const WORDS: [&str; 20] = [
     "the file cannot be read",
     "the text is over 65536 bytes",
     "a lent row is too short",
@@ -33,6 +33,8 @@ const WORDS: [&str; 18] = [
     "line {0}, column {1}: no line of this kind of file begins so",
     "line {0}, column {1}: the field is misspelt",
     "line {0}, column {1}: a field is missing or one too many",
+    "the module of node {0} is outside 1 to 32",
+    "the index is not the one of this network",
 ];
 
 /// The words for refusal 5 outside a text, where no line can be named.

@@ -3,6 +3,7 @@
 use crate::console::{converse, Console};
 use crate::files::Folder;
 use crate::shrink::escaped;
+use crate::LANDED;
 use std::collections::BTreeMap;
 use std::fs;
 use std::path::{Path, PathBuf};
@@ -24,20 +25,25 @@ impl Scratch {
     }
 
     /// What a console started in the folder must write for a whole input, and the files that it must save.
-    fn conversed(&self, input: &[u8]) -> (Vec<u8>, BTreeMap<PathBuf, Vec<u8>>) {
-        let (mut console, mut output) = (Console::started_in(Folder::noting(&self.folder)), Vec::new());
+    fn conversed(&self, input: &[u8], upto: char) -> (Vec<u8>, BTreeMap<PathBuf, Vec<u8>>) {
+        let (mut console, mut output) = (Console::started_in(Folder::noting(&self.folder), upto), Vec::new());
         converse(&mut console, input, &mut output).expect("memory takes every reply");
         (output, console.folder.noted())
     }
 
     /// What a console started in the folder must write for a whole input.
     pub fn demanded(&self, input: &[u8]) -> Vec<u8> {
-        self.conversed(input).0
+        self.demanded_upto(input, LANDED)
     }
 
-    /// The same, and then what the folder must hold afterwards.
+    /// The same of a console of the requests up to a letter.
+    pub fn demanded_upto(&self, input: &[u8], upto: char) -> Vec<u8> {
+        self.conversed(input, upto).0
+    }
+
+    /// What it must write, and then what the folder must hold afterwards.
     pub fn demanded_with_files(&self, input: &[u8]) -> Vec<u8> {
-        let (mut output, saved) = self.conversed(input);
+        let (mut output, saved) = self.conversed(input, LANDED);
         let mut files = contents(&self.folder);
         files.extend(saved.into_iter().map(|(path, bytes)| (path, Some(bytes))));
         output.extend(self.told(&files));

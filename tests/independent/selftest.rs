@@ -1,30 +1,30 @@
 //! The program's own check: 01's worked lines, learners' errors, and the claims of 01 and 02 on random networks.
 
 use crate::boxes::{all_s, Rectangle};
-use crate::calls::{boxed, build, check, judge_network, search, update};
-use crate::cases::{small, Case};
+use crate::calls::{boxed, build, check, search, update};
 use crate::closures;
 use crate::columns;
-use crate::compare::COUNT;
-use crate::console::{Fault, FAULT_WORDS};
+use crate::coverage::coverage;
 use crate::days;
 use crate::drivers;
 use crate::files::{journeys, listing, rows_for_reading};
 use crate::hall;
+use crate::indexed;
+use crate::judging::judge_network;
 use crate::lent::Lent;
 use crate::marks;
 use crate::network::{labels, lengths, open, Arc};
+use crate::panels;
 use crate::plans::{add_surplus, ask, change_boxes, plan, some_bytes};
 use crate::random::Random;
-use crate::record::recorded;
 use crate::refusals::{refused, Refusal};
 use crate::scratch::Scratch;
 use crate::sizes::{ARCS, COORDINATE, NODES, TEXT_BYTES, WEIGHT};
-use crate::talks::{exchanges, talk_files, TALKS};
+use crate::talks::{exchanges, talk_files, talks};
 use crate::text::{fields, lines, number, read_co, read_gr, signed_number};
 use crate::texts::{co_text, gr_text};
 use crate::writing::{write_co, write_gr};
-use std::collections::BTreeSet;
+use crate::{LANDED, LAST};
 
 #[derive(Default)]
 pub struct Tally {
@@ -56,7 +56,8 @@ pub fn run() -> bool {
     drivers::greatest_excess(&mut tally);
     marks::all_small_boxes(&mut tally);
     days::limits(&mut tally);
-    let mut random = Random::new(1);
+    indexed::limits(&mut tally);
+    let (mut random, mut lost) = (Random::new(1), 0);
     for _ in 0..4_000 {
         claims(&mut tally, &mut random);
         closures::claims(&mut tally, &mut random);
@@ -64,7 +65,10 @@ pub fn run() -> bool {
         drivers::claims(&mut tally, &mut random);
         marks::claims(&mut tally, &mut random);
         days::claims(&mut tally, &mut random);
+        indexed::claims(&mut tally, &mut random);
+        lost += usize::from(panels::claims(&mut tally, &mut random));
     }
+    tally.expect(lost > 0, "with the yes of one test alone a search with both may lose a route");
     coverage(&mut tally);
     println!("{} passed, {} failed", tally.passed, tally.failed);
     tally.failed == 0
@@ -98,9 +102,12 @@ fn hall_plan(tally: &mut Tally) {
     tally.expect(listing(&scratch.folder) == hall::LISTING, "the listing of the hall plan");
     tally.expect(journeys(&scratch.folder) == hall::JOURNEYS, "the journeys of the hall plan");
 
-    replied(tally, &scratch, &hall::TALK);
-    for talk in TALKS {
-        replied(tally, &scratch, &exchanges(talk));
+    // What is said of the index has the arcs examined in its replies, which come with the last request.
+    for upto in [LANDED.min('h'), LAST] {
+        replied(tally, &scratch, &hall::talk(upto), upto);
+        for talk in talks(upto) {
+            replied(tally, &scratch, &exchanges(talk), upto);
+        }
     }
 
     let mut lent = rows_for_reading();
@@ -117,10 +124,11 @@ fn hall_plan(tally: &mut Tally) {
     tally.expect(check(&lent).is_ok(), "every box at the full limits");
 }
 
-/// A talk is replied as it says.
-fn replied(tally: &mut Tally, scratch: &Scratch, talk: &[(&str, &str)]) {
+/// A console of the requests up to a letter replies as a talk says.
+fn replied(tally: &mut Tally, scratch: &Scratch, talk: &[(&str, &str)], upto: char) {
     let typed: String = talk.iter().map(|(line, _)| format!("{line}\n")).collect();
-    let output = String::from_utf8(scratch.demanded(typed.as_bytes())).expect("replies are plain text");
+    let output = scratch.demanded_upto(typed.as_bytes(), upto);
+    let output = String::from_utf8(output).expect("replies are plain text");
     tally.expect(output.lines().count() == talk.len(), "one reply for each line");
     for ((line, reply), answer) in talk.iter().zip(output.lines()) {
         tally.expect(answer == *reply, format!("{line}: {reply}, not {answer}"));
@@ -140,9 +148,8 @@ fn one_tree_per_node(tally: &mut Tally) {
         // Arcs 1 and 2 hold what the trees from 1 and from 2 reach through them, 3 and 4 only their head.
         boxes: [[2, 4, 0, 0], [1, 4, 0, 0], [3, 3, 0, 0], [3, 3, 0, 0], [4, 4, 0, 0]].concat(),
         route: vec![0; 4],
-        text: vec![],
         closed: vec![0; 5],
-        answers: vec![],
+        ..Lent::default()
     };
     tally.expect(boxed(&mut lent, 1, 4) == refused(12, &[2]), "from 1 the way to 4 is lost");
     tally.expect(boxed(&mut lent, 2, 4) == refused(12, &[2]), "from 2 the way to 4 is lost");
@@ -317,108 +324,6 @@ fn searches_agree(tally: &mut Tally, lent: &mut Lent) {
                     tally.expect(plain.is_err() && boxed.is_err(), "no walk is lost or found by boxes");
                 }
             }
-        }
-    }
-}
-
-/// Whether a case makes the call where a track is closed.
-fn on_closures(case: &Case, call: &str) -> bool {
-    let mut closed = false;
-    for words in case.lines.iter().map(|line| fields(line)) {
-        match words[..] {
-            [b"fresh"] | [b"gr", ..] => closed = false,
-            [b"lend", b"closed", ref bytes @ ..] => closed = bytes.contains(&&b"1"[..]),
-            [word, ..] if closed && word == call.as_bytes() => return true,
-            _ => (),
-        }
-    }
-    false
-}
-
-/// Whether a case makes the call where the box of an arc is the mark.
-fn on_marks(case: &Case, call: &str) -> bool {
-    let mut marked = false;
-    for words in case.lines.iter().map(|line| fields(line)) {
-        match words[..] {
-            [b"fresh"] => marked = false,
-            [b"lend", b"boxes", ref sides @ ..] => {
-                marked = sides.chunks(4).any(|sides| sides == [b"1", b"0", b"1", b"0"])
-            }
-            [word, ..] if marked && word == call.as_bytes() => return true,
-            _ => (),
-        }
-    }
-    false
-}
-
-/// How the replies to `why` begin.
-#[rustfmt::skip]
-const WHY_REPLIES: [&str; 11] = [
-    "ok 1 (", "ok 2 (", "ok 3 ", "ok 4 (", "ok 5 (", "refused 5 0 ", "refused 2 (", "refused 8 ", "refused 14 ",
-    "refused 11 (", "refused 12 ",
-];
-
-/// How the replies to `p2p` begin.
-#[rustfmt::skip]
-const P2P_REPLIES: [&str; 17] = [
-    "ok ", "refused 0 0 ", "refused 1 (", "refused 2 (", "refused 3 ", "refused 15 ", "refused 16 ", "refused 17 ",
-    "refused 4 ", "refused 5 0 ", "refused 5 1 ", "refused 5 2 ", "refused 6 ", "refused 8 ", "refused 14 ", "refused 9 ",
-    "refused 10 ",
-];
-
-/// The recorded cases have every refusal and every fault; the small cases have all but the longest line.
-fn coverage(tally: &mut Tally) {
-    let scratch = Scratch::new();
-    let mut random = Random::new(2);
-    let small: Vec<Case> = (0..3_000).map(|number| small(&mut random, &format!("small{number}"))).collect();
-    // Of those that are compared there are so many, if they are as these are.
-    let mut at_least = |count: usize, what: &str, has: &dyn Fn(&Case) -> bool| {
-        let seen = small.iter().filter(|case| has(case)).count();
-        tally.expect(seen * COUNT >= count * small.len(), format!("{what} in {seen} cases"));
-    };
-    for call in ["search", "boxed", "build", "check", "update", "why"] {
-        at_least(2_000, &format!("{call} where a track is closed"), &|case| on_closures(case, call));
-    }
-    for call in ["boxed", "check", "update"] {
-        at_least(2_000, &format!("{call} where a box is the mark"), &|case| on_marks(case, call));
-    }
-    at_least(2_000, "p2p", &|case| case.lines.iter().any(|line| line.starts_with(b"p2p ")));
-    at_least(2_000, "a faulty line", &|case| columns::faulty_lines(case) >= 1);
-    at_least(500, "two faulty lines", &|case| columns::faulty_lines(case) >= 2);
-    for (name, case) in [("recorded", recorded(1)), ("small", Case::together(&small))] {
-        scratch.write(&case.files);
-        let output = String::from_utf8(scratch.demanded(&case.input())).expect("replies are plain text");
-        tally.expect(output.lines().count() == case.lines.len(), format!("{name}: a reply to each line"));
-        let spaced = output.lines().any(|line| line.ends_with(' '));
-        tally.expect(!spaced, format!("{name}: no reply ends in a space"));
-        let replies: BTreeSet<&str> = output.lines().collect();
-        for refusal in 0..=17 {
-            let begin = format!("refused {refusal} ");
-            tally.expect(replies.iter().any(|reply| reply.starts_with(&begin)), format!("{name}: {begin}"));
-        }
-        for (kind, refusal) in
-            ["gr", "co", "p2p"].into_iter().flat_map(|kind| [3, 15, 16, 17].map(|slip| (kind, slip)))
-        {
-            let (asks, begin) = (format!("{kind} "), format!("refused {refusal} "));
-            let told = case.lines.iter().zip(output.lines());
-            let seen =
-                told.filter(|(line, reply)| line.starts_with(asks.as_bytes()) && reply.starts_with(&begin));
-            tally.expect(seen.count() > 0, format!("{name}: {kind} {begin}"));
-        }
-        let whys = WHY_REPLIES.map(|begin| ("why", begin));
-        let lists = P2P_REPLIES.map(|begin| ("p2p", begin));
-        for (call, begin) in whys.into_iter().chain(lists) {
-            let mut told = case.lines.iter().zip(output.lines());
-            let seen =
-                told.any(|(line, reply)| fields(line)[0] == call.as_bytes() && reply.starts_with(begin));
-            tally.expect(seen, format!("{name}: {call}, {begin}"));
-        }
-        let unwritten = "refused 0 0 (the file cannot be written)";
-        tally.expect(replies.contains(unwritten), format!("{name}: {unwritten}"));
-        for words in FAULT_WORDS {
-            let too_long = name == "small" && words == FAULT_WORDS[Fault::LongLine as usize];
-            let seen = replies.contains(format!("? {words}").as_str());
-            tally.expect(seen || too_long, format!("{name}: {words}"));
         }
     }
 }

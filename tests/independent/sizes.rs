@@ -1,4 +1,4 @@
-//! The limits of 01, 'Sizes', the two bytes of request b, and the queries of request g.
+//! The limits of 01, 'Sizes', the two bytes of request b, the queries of request g, and the modules of request h.
 
 pub const NODES: i64 = 512;
 pub const ARCS: i64 = 2_048;
@@ -6,6 +6,7 @@ pub const WEIGHT: i64 = 1_000_000;
 pub const COORDINATE: i64 = 1_000_000;
 pub const TEXT_BYTES: usize = 65_536;
 pub const QUERIES: i64 = 256;
+pub const MODULES: i64 = 32;
 
 pub fn is_node_count(n: i64) -> bool {
     (1..=NODES).contains(&n)
@@ -21,6 +22,10 @@ pub fn is_query_count(k: i64) -> bool {
 
 pub fn is_node(node: i64, n: i64) -> bool {
     (1..=n).contains(&node)
+}
+
+pub fn is_module(module: i64) -> bool {
+    (1..=MODULES).contains(&module)
 }
 
 pub fn is_weight(weight: i64) -> bool {

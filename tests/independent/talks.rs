@@ -6,7 +6,15 @@ pub fn exchanges(talk: &str) -> Vec<(&str, &str)> {
     said.map(|line| line.split_once(" => ").unwrap_or((line, "ok"))).collect()
 }
 
-pub const TALKS: [&str; 8] = [WORKED, SMALL, AROUND_ZERO, WRITTEN, CLOSED, WHY, MARKS, DAY];
+/// The talks with a console of the requests up to a letter.
+pub fn talks(upto: char) -> impl Iterator<Item = &'static str> {
+    const TALKS: [&str; 10] = [WORKED, SMALL, AROUND_ZERO, WRITTEN, CLOSED, WHY, MARKS, DAY, PANEL, INDEX];
+    TALKS.into_iter().take(match upto {
+        ..='g' => 8,
+        'h' => 9,
+        _ => 10,
+    })
+}
 
 /// The files that the talks name besides those of the hall plan.
 #[rustfmt::skip]
@@ -857,4 +865,468 @@ show answers 6 => answers 6 3 7 0 0 0
 -- One word, the file's name.
 p2p => ? a wrong count of words for this command
 p2p hall.p2p 4 => ? a wrong count of words for this command
+";
+
+/// Modules, masks and lamps, by request h: on the hall plan, with one yes of two, and each refusal in its order.
+const PANEL: &str = "\
+fresh
+-- The hall plan, its nodes in modules 1, 2, 3 and 32. Masks alone are lent no coordinates and no boxes.
+gr hall.gr => ok 4 6
+lend x
+lend y
+lend boxes
+lend modules 1 2 3 32
+lend masks 9 9 9 9 9 9 9
+build masks
+show masks => masks 2147483654 2147483653 2147483652 2147483651 0 7 9
+check masks
+search 1 4 masks => ok 6 2 4 3 4
+search 1 2 masks => ok 3 1 2 1
+search 4 2 masks => ok 7 2 3 6 1
+search 1 1 masks => ok 0 0 1
+show route 3 => route 6 1 0
+-- With 2, 3 and 4 in one module a mask that has it passes toward all of them.
+lend modules 1 2 2 2
+build masks
+show masks 6 => masks 2 3 2 3 0 3
+search 1 2 masks => ok 3 1 2 1
+search 1 3 masks => ok 5 1 3 3
+search 3 1 masks => ok 5 2 3 4 6
+-- A larger mask passes too, and bits of modules without nodes are no fault. A smaller one does not.
+lend masks 4294967295 4294967295 4294967295 4294967295 4294967295 4294967295
+check masks
+lend masks 2 3 0 3 0 3
+check masks => refused 13 3 3 (the box of arc 3 misses node 3)
+search 1 3 masks => ok 5 2 3 1 2
+-- The mask of a closed arc is 0, whatever its head.
+lend closed 0 0 1 0 0 0
+lend masks 1 1 1 1 1 1
+build masks
+show masks 6 => masks 2 3 0 3 0 3
+check masks
+lend closed 0 0 0 0 0 0
+check masks => refused 13 3 3 (the box of arc 3 misses node 3)
+-- Both tests, both with their yes.
+fresh
+gr hall.gr => ok 4 6
+co hall.co
+build boxes
+show boxes 24 => boxes -5 10 0 20 -5 10 0 20 -5 10 5 20 -5 10 0 20 1 0 1 0 0 10 0 5
+lend modules 1 2 3 32
+build masks
+check boxes masks
+search 1 4 boxes masks => ok 6 2 4 3 4
+search 4 2 boxes masks => ok 7 2 3 6 1
+search 1 4 boxes => ok 6 2 4 3 4
+-- Only the boxes have their yes: with the mask 0 for arc 4 the way from 1 to 4 is lost.
+lend masks 2147483654 2147483653 2147483652 0 0 7
+check boxes
+check masks => refused 13 4 1 (the box of arc 4 misses node 1)
+check boxes masks => refused 13 4 1 (the box of arc 4 misses node 1)
+search 1 4 boxes => ok 6 2 4 3 4
+search 1 4 masks => refused 12 3 (no walk leads from the source to the target, settled 3)
+search 1 4 boxes masks => refused 12 3 (no walk leads from the source to the target, settled 3)
+-- Only the masks have theirs.
+build masks
+lend boxes -5 10 0 20 -5 10 0 20 -5 10 5 20 1 0 1 0 1 0 1 0 0 10 0 5
+check masks
+check boxes => refused 13 4 1 (the box of arc 4 misses node 1)
+check boxes masks => refused 13 4 1 (the box of arc 4 misses node 1)
+search 1 4 masks => ok 6 2 4 3 4
+search 1 4 boxes masks => refused 12 3 (no walk leads from the source to the target, settled 3)
+-- Where both kinds are checked the boxes come first, though a lower arc has the wrong mask.
+lend masks 0 0 0 0 0 0
+check boxes masks => refused 13 4 1 (the box of arc 4 misses node 1)
+check masks => refused 13 1 2 (the box of arc 1 misses node 2)
+build
+check boxes masks => refused 13 1 2 (the box of arc 1 misses node 2)
+-- An update changes no masks: those of before need not pass.
+build masks
+update 5 6 0
+show masks 6 => masks 2147483654 2147483653 2147483652 2147483651 0 7
+check boxes
+check masks => refused 13 5 4 (the box of arc 5 misses node 4)
+search 1 4 masks => ok 6 2 4 3 4
+search 1 4 boxes => ok 6 1 4 5
+search 1 4 boxes masks => ok 6 2 4 3 4
+build masks
+show masks 6 => masks 2147483654 2147483653 2147483652 2147483651 2147483648 7
+search 1 4 boxes masks => ok 6 1 4 5
+-- The refusals one after the other: 5, 2, 8, 14, 9, 18, 10, 11, 12. With masks alone no coordinate and no box is judged.
+n 513
+m 1
+lend tails 3
+lend heads 2
+lend weights 1
+lend closed 2
+lend x 0 1000001
+lend y 0 0
+lend modules 1
+lend masks 0
+lend boxes 1 0 0 0
+lend route 9 9
+build masks => refused 5 0 (n, m or the new weight is beyond its limits)
+check masks => refused 5 0 (n, m or the new weight is beyond its limits)
+check boxes masks => refused 5 0 (n, m or the new weight is beyond its limits)
+search 3 3 masks => refused 5 0 (n, m or the new weight is beyond its limits)
+search 3 3 boxes masks => refused 5 0 (n, m or the new weight is beyond its limits)
+n 2
+build masks => refused 2 (a lent row is too short)
+check masks => refused 2 (a lent row is too short)
+check boxes masks => refused 2 (a lent row is too short)
+search 3 3 masks => refused 2 (a lent row is too short)
+search 3 3 boxes masks => refused 2 (a lent row is too short)
+lend modules 1 33
+lend masks
+build masks => refused 2 (a lent row is too short)
+check masks => refused 2 (a lent row is too short)
+check boxes masks => refused 2 (a lent row is too short)
+search 3 3 masks => refused 2 (a lent row is too short)
+search 3 3 boxes masks => refused 2 (a lent row is too short)
+lend masks 0
+build masks => refused 8 1 (arc 1 has a bad node or weight)
+check masks => refused 8 1 (arc 1 has a bad node or weight)
+check boxes masks => refused 8 1 (arc 1 has a bad node or weight)
+search 3 3 masks => refused 8 1 (arc 1 has a bad node or weight)
+search 3 3 boxes masks => refused 8 1 (arc 1 has a bad node or weight)
+lend tails 1
+build masks => refused 14 1 (the closure of arc 1 is neither 0 nor 1)
+check masks => refused 14 1 (the closure of arc 1 is neither 0 nor 1)
+check boxes masks => refused 14 1 (the closure of arc 1 is neither 0 nor 1)
+search 3 3 masks => refused 14 1 (the closure of arc 1 is neither 0 nor 1)
+search 3 3 boxes masks => refused 14 1 (the closure of arc 1 is neither 0 nor 1)
+lend closed 0
+build masks => refused 18 2 (the module of node 2 is outside 1 to 32)
+check masks => refused 18 2 (the module of node 2 is outside 1 to 32)
+check boxes masks => refused 9 2 (node 2 has a bad coordinate)
+search 3 3 masks => refused 18 2 (the module of node 2 is outside 1 to 32)
+search 3 3 boxes masks => refused 9 2 (node 2 has a bad coordinate)
+lend x 0 10
+build masks => refused 18 2 (the module of node 2 is outside 1 to 32)
+check masks => refused 18 2 (the module of node 2 is outside 1 to 32)
+check boxes masks => refused 18 2 (the module of node 2 is outside 1 to 32)
+search 3 3 masks => refused 18 2 (the module of node 2 is outside 1 to 32)
+search 3 3 boxes masks => refused 18 2 (the module of node 2 is outside 1 to 32)
+lend modules 0 33
+build masks => refused 18 1 (the module of node 1 is outside 1 to 32)
+check masks => refused 18 1 (the module of node 1 is outside 1 to 32)
+check boxes masks => refused 18 1 (the module of node 1 is outside 1 to 32)
+search 3 3 masks => refused 18 1 (the module of node 1 is outside 1 to 32)
+search 3 3 boxes masks => refused 18 1 (the module of node 1 is outside 1 to 32)
+lend modules 1 4294967295
+build masks => refused 18 2 (the module of node 2 is outside 1 to 32)
+check masks => refused 18 2 (the module of node 2 is outside 1 to 32)
+check boxes masks => refused 18 2 (the module of node 2 is outside 1 to 32)
+search 3 3 masks => refused 18 2 (the module of node 2 is outside 1 to 32)
+search 3 3 boxes masks => refused 18 2 (the module of node 2 is outside 1 to 32)
+lend modules 1 32
+check masks => refused 13 1 2 (the box of arc 1 misses node 2)
+check boxes masks => refused 10 1 (the box of arc 1 is not well shaped)
+search 3 3 masks => refused 11 (the source, target or arc is not in the network)
+search 3 3 boxes masks => refused 10 1 (the box of arc 1 is not well shaped)
+build masks
+show masks => masks 2147483648
+lend boxes 1 0 1 0
+search 3 3 boxes masks => refused 11 (the source, target or arc is not in the network)
+search 0 1 masks => refused 11 (the source, target or arc is not in the network)
+search 1 0 boxes masks => refused 11 (the source, target or arc is not in the network)
+search 1 2 boxes masks => refused 12 1 (no walk leads from the source to the target, settled 1)
+search 2 1 masks => refused 12 1 (no walk leads from the source to the target, settled 1)
+check boxes masks => refused 13 1 2 (the box of arc 1 misses node 2)
+build boxes
+check boxes masks
+search 1 2 boxes masks => ok 1 1 2 1
+show route => route 1 9
+lend route 9
+search 1 2 masks => refused 2 (a lent row is too short)
+search 1 2 boxes masks => refused 2 (a lent row is too short)
+check boxes masks
+lend route 9 9
+lend y 0
+search 1 2 masks => ok 1 1 2 1
+search 1 2 boxes masks => refused 2 (a lent row is too short)
+check boxes masks => refused 2 (a lent row is too short)
+check masks
+-- The panel: how many modules, and which, lowest first. The rest keeps its contents.
+fresh
+lamps 0 => ok 0
+show lamps 2 => lamps 0 0
+lamps 1 => ok 1
+show lamps 2 => lamps 1 0
+lamps 2147483648 => ok 1
+show lamps 2 => lamps 32 0
+lamps 2147483654 => ok 3
+show lamps 4 => lamps 2 3 32 0
+lamps 5 => ok 2
+show lamps 4 => lamps 1 3 32 0
+lamps 4294967295 => ok 32
+show lamps 34 => lamps 1 2 3 4 5 6 7 8 9 10 11 12 13 14 15 16 17 18 19 20 21 22 23 24 25 26 27 28 29 30 31 32 0 0
+lamps 2863311530 => ok 16
+show lamps 18 => lamps 2 4 6 8 10 12 14 16 18 20 22 24 26 28 30 32 17 18
+lend lamps 7 7 7 7 7 7 7 7 7 7 7 7 7 7 7 7 7 7 7 7 7 7 7 7 7 7 7 7 7 7 7
+lamps 0 => refused 2 (a lent row is too short)
+lamps 3 => refused 2 (a lent row is too short)
+show lamps => lamps 7 7 7 7 7 7 7 7 7 7 7 7 7 7 7 7 7 7 7 7 7 7 7 7 7 7 7 7 7 7 7
+lend lamps 7 7 7 7 7 7 7 7 7 7 7 7 7 7 7 7 7 7 7 7 7 7 7 7 7 7 7 7 7 7 7 7
+lamps 3 => ok 2
+show lamps 4 => lamps 1 2 7 7
+lamps 4294967296 => ? a number is too small or too large for its place
+lamps -1 => ? a number is misspelt
+lamps => ? a wrong count of words for this command
+lamps 1 2 => ? a wrong count of words for this command
+-- The words stand in their order, each once.
+search 1 1 masks boxes => ? no such command, help names them
+search 1 1 masks masks => ? no such command, help names them
+search 1 1 boxes masks x => ? no such command, help names them
+search x 1 y => ? no such command, help names them
+search x 1 masks => ? a number is misspelt
+search 1 masks => ? a number is misspelt
+search masks => ? a wrong count of words for this command
+boxed 1 1 masks => ? a wrong count of words for this command
+check masks boxes => ? no such command, help names them
+check x => ? no such command, help names them
+build boxes masks => ? no such command, help names them
+build x => ? no such command, help names them
+";
+
+/// The index by starting point, by requests i and j: on the hall plan, indexes that are others, each refusal in its order, and
+/// the arcs examined.
+const INDEX: &str = "\
+fresh
+-- The hall plan: three arcs leave 1, and one each of the others. The index is built without closures, a search needs them.
+gr hall.gr => ok 4 6
+co hall.co
+lend closed
+build index
+show offsets 6 => offsets 0 3 4 5 6 0
+show order 7 => order 1 3 5 2 4 6 0
+search 1 4 index => refused 2 (a lent row is too short)
+lend closed 0 0 0 0 0 0
+search 1 4 index => ok 6 2 4 5 3 4
+search 1 2 index => ok 3 1 2 3 1
+search 4 2 index => ok 7 2 3 4 6 1
+search 1 1 index => ok 0 0 1 0
+build
+search 1 4 boxes index => ok 6 2 4 5 3 4
+lend modules 1 2 3 32
+build masks
+search 1 4 masks index => ok 6 2 4 5 3 4
+search 1 4 boxes masks index => ok 6 2 4 5 3 4
+show route 3 => route 3 4 0
+-- Closures and weight changes leave it valid.
+update 3 5 1
+search 1 4 index => ok 6 3 4 5 1 2 4
+update 5 6 0
+search 1 4 index => ok 6 1 4 5 5
+search 1 4 boxes index => ok 6 1 4 5 5
+lend closed 1 0 1 0 1 0
+search 1 4 index => refused 12 1 3 (no walk leads from the source to the target, settled 1)
+search 1 4 boxes index => refused 12 1 3 (no walk leads from the source to the target, settled 1)
+-- Any other index is 19; what stands behind it is not read.
+lend closed 0 0 0 0 0 0
+lend order 3 1 5 2 4 6
+search 1 4 index => refused 19 (the index is not the one of this network)
+lend order 1 3 5 2 6 4
+search 1 4 index => refused 19 (the index is not the one of this network)
+lend order 1 3 5 2 4 4
+search 1 4 index => refused 19 (the index is not the one of this network)
+lend order 0 2 4 1 3 5
+search 1 4 index => refused 19 (the index is not the one of this network)
+lend order 1 3 5 2 4 6 4294967295
+search 1 4 index => ok 6 1 4 5 5
+lend offsets 0 3 4 5 5
+search 1 4 index => refused 19 (the index is not the one of this network)
+lend offsets 1 3 4 5 6
+search 1 4 index => refused 19 (the index is not the one of this network)
+lend offsets 1 4 5 6 7
+search 1 4 index => refused 19 (the index is not the one of this network)
+lend offsets 0 3 4 5 6 9
+search 1 4 index => ok 6 1 4 5 5
+-- n + 1 and m places are needed.
+lend offsets 0 3 4 5
+search 1 4 index => refused 2 (a lent row is too short)
+search 1 4 => ok 6 1 4 5
+build index => refused 2 (a lent row is too short)
+lend offsets 9 9 9 9 9
+lend order 1 3 5 2 4
+search 1 4 index => refused 2 (a lent row is too short)
+build index => refused 2 (a lent row is too short)
+show offsets => offsets 9 9 9 9 9
+lend order 9 9 9 9 9 9
+build index
+show offsets => offsets 0 3 4 5 6
+show order => order 1 3 5 2 4 6
+-- Nodes that no arc leaves, at either end and between; and no arcs at all.
+n 5
+m 3
+lend tails 4 2 4
+lend heads 1 1 2
+lend weights 0 0 0
+lend offsets 9 9 9 9 9 9 9
+lend order 9 9 9 9
+build index
+show offsets => offsets 0 0 1 1 3 3 9
+show order => order 2 1 3 9
+search 4 1 index => ok 0 1 2 2 1
+search 1 4 index => refused 12 1 0 (no walk leads from the source to the target, settled 1)
+n 1
+m 0
+lend offsets 9 9 9
+lend order 9
+build index
+show offsets => offsets 0 0 9
+show order => order 9
+search 1 1 index => ok 0 0 1 0
+-- Building reads all three arc rows: 5, 2 for each of five rows, 8. Nothing changes.
+n 513
+m 1
+lend tails 3
+lend heads
+lend weights 1000001
+lend closed
+lend offsets 7 7
+lend order
+build index => refused 5 0 (n, m or the new weight is beyond its limits)
+n 2
+m 2049
+build index => refused 5 0 (n, m or the new weight is beyond its limits)
+m 1
+build index => refused 2 (a lent row is too short)
+lend heads 2
+build index => refused 2 (a lent row is too short)
+lend offsets 7 7 7
+build index => refused 2 (a lent row is too short)
+lend order 7
+build index => refused 8 1 (arc 1 has a bad node or weight)
+lend tails 1
+build index => refused 8 1 (arc 1 has a bad node or weight)
+lend tails
+lend weights 1
+build index => refused 2 (a lent row is too short)
+lend tails 1
+lend weights
+build index => refused 2 (a lent row is too short)
+show offsets => offsets 7 7 7
+show order => order 7
+lend weights 1000000
+-- The refusals of searches one after the other: 5, 2, 8, 14, 19, 9, 18, 10, 11, 12.
+n 513
+lend tails 3
+lend closed 2
+lend x 0 1000001
+lend y 0 0
+lend modules 1 33
+lend masks 2147483648
+lend boxes 1 0 0 0
+lend route 9 9
+lend offsets 7 7
+search 3 3 index => refused 5 0 (n, m or the new weight is beyond its limits)
+search 3 3 boxes index => refused 5 0 (n, m or the new weight is beyond its limits)
+search 3 3 masks index => refused 5 0 (n, m or the new weight is beyond its limits)
+search 3 3 boxes masks index => refused 5 0 (n, m or the new weight is beyond its limits)
+n 2
+search 3 3 index => refused 2 (a lent row is too short)
+search 3 3 boxes index => refused 2 (a lent row is too short)
+search 3 3 masks index => refused 2 (a lent row is too short)
+search 3 3 boxes masks index => refused 2 (a lent row is too short)
+lend offsets 7 7 7
+lend order
+search 3 3 index => refused 2 (a lent row is too short)
+search 3 3 boxes index => refused 2 (a lent row is too short)
+search 3 3 masks index => refused 2 (a lent row is too short)
+search 3 3 boxes masks index => refused 2 (a lent row is too short)
+lend order 7
+search 3 3 index => refused 8 1 (arc 1 has a bad node or weight)
+search 3 3 boxes index => refused 8 1 (arc 1 has a bad node or weight)
+search 3 3 masks index => refused 8 1 (arc 1 has a bad node or weight)
+search 3 3 boxes masks index => refused 8 1 (arc 1 has a bad node or weight)
+lend tails 1
+search 3 3 index => refused 14 1 (the closure of arc 1 is neither 0 nor 1)
+search 3 3 boxes index => refused 14 1 (the closure of arc 1 is neither 0 nor 1)
+search 3 3 masks index => refused 14 1 (the closure of arc 1 is neither 0 nor 1)
+search 3 3 boxes masks index => refused 14 1 (the closure of arc 1 is neither 0 nor 1)
+lend closed 0
+search 3 3 index => refused 19 (the index is not the one of this network)
+search 3 3 boxes index => refused 19 (the index is not the one of this network)
+search 3 3 masks index => refused 19 (the index is not the one of this network)
+search 3 3 boxes masks index => refused 19 (the index is not the one of this network)
+lend order 1
+lend offsets 0 1 2
+search 3 3 index => refused 19 (the index is not the one of this network)
+search 3 3 boxes index => refused 19 (the index is not the one of this network)
+search 3 3 masks index => refused 19 (the index is not the one of this network)
+search 3 3 boxes masks index => refused 19 (the index is not the one of this network)
+build index
+search 3 3 index => refused 11 (the source, target or arc is not in the network)
+search 3 3 boxes index => refused 9 2 (node 2 has a bad coordinate)
+search 3 3 masks index => refused 18 2 (the module of node 2 is outside 1 to 32)
+search 3 3 boxes masks index => refused 9 2 (node 2 has a bad coordinate)
+lend x 0 10
+search 3 3 index => refused 11 (the source, target or arc is not in the network)
+search 3 3 boxes index => refused 10 1 (the box of arc 1 is not well shaped)
+search 3 3 masks index => refused 18 2 (the module of node 2 is outside 1 to 32)
+search 3 3 boxes masks index => refused 18 2 (the module of node 2 is outside 1 to 32)
+lend modules 1 32
+search 3 3 index => refused 11 (the source, target or arc is not in the network)
+search 3 3 boxes index => refused 10 1 (the box of arc 1 is not well shaped)
+search 3 3 masks index => refused 11 (the source, target or arc is not in the network)
+search 3 3 boxes masks index => refused 10 1 (the box of arc 1 is not well shaped)
+lend boxes 10 10 0 0
+search 3 3 index => refused 11 (the source, target or arc is not in the network)
+search 3 3 boxes index => refused 11 (the source, target or arc is not in the network)
+search 3 3 masks index => refused 11 (the source, target or arc is not in the network)
+search 3 3 boxes masks index => refused 11 (the source, target or arc is not in the network)
+search 2 1 index => refused 12 1 0 (no walk leads from the source to the target, settled 1)
+search 2 1 boxes index => refused 12 1 0 (no walk leads from the source to the target, settled 1)
+search 2 1 masks index => refused 12 1 0 (no walk leads from the source to the target, settled 1)
+search 2 1 boxes masks index => refused 12 1 0 (no walk leads from the source to the target, settled 1)
+search 1 2 index => ok 1000000 1 2 1 1
+search 1 2 boxes index => ok 1000000 1 2 1 1
+search 1 2 masks index => ok 1000000 1 2 1 1
+search 1 2 boxes masks index => ok 1000000 1 2 1 1
+show route => route 1 9
+-- The arcs examined: all that leave the settled nodes but the target, the closed ones and those shut out by a test too.
+fresh
+gr hall.gr => ok 4 6
+co hall.co
+build
+build index
+lend modules 1 2 3 32
+build masks
+search 1 3 index => ok 5 1 3 4 3
+search 3 2 index => ok 8 3 4 5 4 6 1
+search 2 1 boxes index => ok 7 3 4 3 2 4 6
+lend closed 0 0 0 0 1 0
+search 1 4 index => ok 6 2 4 5 3 4
+lend masks 0 0 0 0 0 0
+search 1 4 masks index => refused 12 1 3 (no walk leads from the source to the target, settled 1)
+search 4 4 masks index => ok 0 0 1 0
+search 2 4 boxes masks index => refused 12 1 1 (no walk leads from the source to the target, settled 1)
+lend closed 0 0 0 1 1 0
+search 1 4 index => refused 12 3 5 (no walk leads from the source to the target, settled 3)
+search 1 4 => refused 12 3 (no walk leads from the source to the target, settled 3)
+lend boxes 1 0 1 0 -5 10 0 20 -5 10 5 20 -5 10 0 20 1 0 1 0 0 10 0 5
+search 1 4 boxes index => refused 12 2 4 (no walk leads from the source to the target, settled 2)
+-- Loops and parallel arcs count each; from the target none do.
+n 2
+m 5
+lend tails 1 1 1 2 2
+lend heads 1 2 2 2 1
+lend weights 0 4 3 0 0
+lend closed 0 0 0 0 0
+build index
+show offsets 3 => offsets 0 3 5
+search 1 2 index => ok 3 1 2 3 3
+search 2 1 index => ok 0 1 2 2 5
+search 2 2 index => ok 0 0 1 0
+-- The word stands last, once, and goes with searches alone.
+search 1 1 index boxes => ? no such command, help names them
+search 1 1 index index => ? no such command, help names them
+search 1 1 boxes index masks => ? no such command, help names them
+boxed 1 1 index => ? a wrong count of words for this command
+check index => ? no such command, help names them
+check boxes index => ? no such command, help names them
+build boxes index => ? no such command, help names them
+build index index => ? no such command, help names them
+index => ? no such command, help names them
 ";

@@ -42,7 +42,8 @@ pub fn search(n: usize, arcs: &[Arc], s: usize, t: usize) -> Result<Found, Refus
     let mut route =
         walks.iter().filter(|walk| key(walk) == own).map(backward).min().expect("t has a best walk");
     route.reverse();
-    Ok(Found { length: own.0, settled: 1 + triples.iter().filter(|before| **before < own).count(), route })
+    let settled = 1 + triples.iter().filter(|before| **before < own).count();
+    Ok(Found { length: own.0, settled, examined: None, route })
 }
 
 /// The least length of those of the walks to t that use the arc with this number.

@@ -1,6 +1,6 @@
 //! The plans written back: request a of 02.
 
-use crate::calls::{judge_arcs, judge_places};
+use crate::judging::{judge_arcs, judge_places};
 use crate::lent::{fill, Lent};
 use crate::refusals::{refused, Refusal};
 use crate::sizes::is_node_count;

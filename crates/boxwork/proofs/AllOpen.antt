@@ -15,9 +15,11 @@ use Rattle.walks.specs.Walk.{Net}
 use Rattle.walks.specs.Rows.{Rows, at, laid, network}
 use Rattle.walks.proofs.RowsLaws.{open-network}
 use Rattle.judging.specs.Order.{arcsJudged, shapedBy, reweighing, updateJudged}
-use Rattle.judging.proofs.OpenLaws.{search-open, boxed-open, build-open, check-open, update-open}
+use Rattle.judging.proofs.OpenLaws.{search-open, build-open, check-open, update-open}
 use Rattle.judging.proofs.FineLaws.{update-fine}
-use Rattle.search.specs.Says.{Says, holding}
+use Rattle.passing.specs.Signs.{nothing, boxesAlone, noSigns, boxSigns}
+use Rattle.passing.specs.Passing.{passing}
+use Rattle.search.specs.Says.{Says}
 use Rattle.drawing.specs.Drawn.{Drawn, boxRow}
 use Rattle.boxwork.specs.Tight.{Updated}
 use Rattle.boxwork.specs.Says.{Builds, Checks, Updates, UpdateSays, changed}
@@ -33,22 +35,22 @@ same-says {j} {j′} {N} {N′} P p q = (
 module _ (n m : ℕ) (R : Rows) where
   pub search-as-before : SearchAsBefore n m R
   search-as-before o s t before after reply =
-      same-says (λ j N. Says j N n s t before reply after) (search-open n m R (o .all) (o .long) s t (length before)) (open-network m R (o .all))
+      same-says (λ j N. Says j N n s t before reply after) (search-open n m R (o .all) (o .long) nothing noSigns s t (length before)) (open-network m R (o .all))
 
   module _ (x y boxes : List ℤ) where
     pub boxed-as-before : BoxedAsBefore n m R x y boxes
     boxed-as-before o s t before after reply =
-        same-says (λ j N. Says j (holding x y boxes t N) n s t before reply after)
-        (boxed-open n m R (o .all) (o .long) x y boxes s t (length before))
+        same-says (λ j N. Says j (passing boxesAlone (boxSigns x y boxes) t N) n s t before reply after)
+        (search-open n m R (o .all) (o .long) boxesAlone (boxSigns x y boxes) s t (length before))
         (open-network m R (o .all))
 
     pub build-as-before : BuildAsBefore n m R x y boxes
     build-as-before o reply after =
-        same-says (λ j N. Builds j N m x y boxes reply after) (build-open n m R (o .all) (o .long) x y boxes) (open-network m R (o .all))
+        same-says (λ j N. Builds j N m boxesAlone (boxSigns x y boxes) reply after []) (build-open n m R (o .all) (o .long) boxesAlone (boxSigns x y boxes)) (open-network m R (o .all))
 
     pub check-as-before : CheckAsBefore n m R x y boxes
     check-as-before o reply =
-        same-says (λ j N. Checks j N x y boxes reply) (check-open n m R (o .all) (o .long) x y boxes) (open-network m R (o .all))
+        same-says (λ j N. Checks j N boxesAlone (boxSigns x y boxes) reply) (check-open n m R (o .all) (o .long) boxesAlone (boxSigns x y boxes)) (open-network m R (o .all))
 
     -- ---- An update that leaves its arc open writes 0 where 0 stood
 
@@ -59,11 +61,11 @@ module _ (n m : ℕ) (R : Rows) where
       same-network : at (R .closures) arc ≡ 0 → network m (changed R arc weight 0) ≡ laid m (reweighted R arc weight)
       same-network h = rw (same-rows h) (open-network m (reweighted R arc weight) (o .all))
 
-      open-arc : updateJudged n m R x y boxes arc weight 0 ≡ Fine → at (R .closures) arc ≡ 0
-      open-arc f = let u = update-fine n m R x y boxes arc weight 0 f in o .all arc (u .1) (u .2)
+      open-arc : updateJudged boxesAlone n m R (boxSigns x y boxes) arc weight 0 ≡ Fine → at (R .closures) arc ≡ 0
+      open-arc f = let u = update-fine boxesAlone n m R (boxSigns x y boxes) arc weight 0 f in o .all arc (u .1) (u .2)
 
-      alike : updateJudged n m R x y boxes arc weight 0 ≡ inTurn (shapedBy (arcsJudged n m R) n m x y boxes true ∷ reweighing m arc weight ∷ [])
-      alike = update-open n m R (o .all) (o .long) x y boxes arc weight
+      alike : updateJudged boxesAlone n m R (boxSigns x y boxes) arc weight 0 ≡ inTurn (shapedBy (arcsJudged n m R) n m boxesAlone (boxSigns x y boxes) true ∷ reweighing m arc weight ∷ [])
+      alike = update-open n m R (o .all) (o .long) boxesAlone (boxSigns x y boxes) arc weight
 
       there : {reply : Reply} {left : Rows} {after : List ℤ} → UpdateSays n m R x y boxes arc weight 0 reply left after → Update01 n m R x y boxes arc weight reply left after
       there (Updates.refused e) = Updates.refused (sym alike ∙ e)

@@ -1,13 +1,13 @@
 -- The rows with another weight and another closure for an arc are sound too.
 use Prim.Native.Nat.{ℕ, _-_, _≤_}
-use mathlib.Core.List.{List}
 use native.Mathlib.Omega.{arith}
 use native.Mathlib.Decide.{ℕ-discrete}
-use lib.IntN.{ℤ}
 use lib.ListN.{length-set}
 use lib.Seq.{getD-set-same, getD-set-other}
+use Rattle.rules.specs.declared.Asked.{Asked}
 use Rattle.walks.specs.Rows.{Rows, Sound, at}
-use Rattle.judging.proofs.StageLaws.{BoxesLent, Closures}
+use Rattle.passing.specs.Signs.{Signs}
+use Rattle.judging.proofs.StageLaws.{SignsLent, Closures}
 use Rattle.boxwork.specs.Says.{changed}
 
 module _ {n m : ℕ} {R : Rows} (sound : Sound n m R) (arc weight closure : ℕ) (low : 1 ≤ arc) (high : arc ≤ m) (light : weight ≤ 1_000_000) where
@@ -38,12 +38,5 @@ module _ {n m : ℕ} {R : Rows} (sound : Sound n m R) (arc weight closure : ℕ)
       | no other ↦ rw (getD-set-other (R .closures) (arc - 1) (e - 1) closure 0 (λ q. other (omega arith))) (bytes e e-low e-high)
     ]
 
-    pub lent-changed : {x y boxes : List ℤ} → BoxesLent n m R x y boxes → BoxesLent n m (changed R arc weight closure) x y boxes
-    lent-changed l = record {
-      sound = sound-changed;
-      bytes = closures-changed (l .bytes);
-      x-long = l .x-long;
-      y-long = l .y-long;
-      boxes-long = l .boxes-long;
-      places = l .places;
-    }
+    pub lent-changed : {asked : Asked} {G : Signs} → SignsLent asked n m R G → SignsLent asked n m (changed R arc weight closure) G
+    lent-changed l = record { sound = sound-changed; bytes = closures-changed (l .bytes); places = l .places; modules = l .modules }

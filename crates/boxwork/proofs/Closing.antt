@@ -15,10 +15,12 @@ use Rattle.walks.specs.Walk.{Net}
 use Rattle.walks.specs.Rows.{Rows, at, network}
 use Rattle.walks.proofs.WalkLaws.{by-uses}
 use Rattle.walks.proofs.RouteLaws.{route-count, route-walk}
-use Rattle.judging.proofs.FineLaws.{build-fine, check-fine, update-fine}
+use Rattle.passing.specs.Signs.{boxesAlone, boxSigns}
+use Rattle.passing.proofs.PassingLaws.{passing-in}
+use Rattle.judging.proofs.FineLaws.{check-fine, update-fine}
 use Rattle.search.specs.Says.{Answers, found, none, Says, refused, answered}
 use Rattle.boxwork.specs.Says.{UpdateSays, changed}
-use Rattle.boxwork.specs.Closing.{NotAmong, ClosedEmpty, SearchAfterClosing, BoxedAfterClosing}
+use Rattle.boxwork.specs.Closing.{NotAmong, ClosedEmpty, SearchAfterClosing}
 use Rattle.boxwork.proofs.Accepting.{update-accepts}
 
 -- a closed arc is no arc of the network
@@ -50,12 +52,9 @@ module _ (n m : ℕ) (R : Rows) where
     closed : UpdateSays n m R x y before arc weight 1 (accepted []) R′ boxes → network m R′ .Arc arc → ⊥
     closed u =
         let h = update-accepts u refl in
-        let f = update-fine n m R x y before arc weight 1 (h .0) in
-        let l = build-fine n m R x y before (check-fine n m R x y before (f .0) .0) in
+        let f = update-fine boxesAlone n m R (boxSigns x y before) arc weight 1 (h .0) in
+        let l = check-fine boxesAlone n m R (boxSigns x y before) (f .0) .lent in
         rw (h .1) (shut m (changed R arc weight 1) arc (getD-set-same (R .closures) (arc - 1) 1 0 (omega (arith, f .1, f .2, l .sound .closures-long))))
 
     pub search-after-closing : SearchAfterClosing n m R x y before arc weight R′ boxes
-    search-after-closing u s t row after d k c says = says-avoid (closed u) says refl
-
-    pub boxed-after-closing : BoxedAfterClosing n m R x y before arc weight R′ boxes
-    boxed-after-closing u x′ y′ boxes′ s t row after d k c says = says-avoid (λ a. closed u (a .0)) says refl
+    search-after-closing u asked G s t row after d k c says = says-avoid (λ a. closed u (passing-in asked G t (network m R′) arc a .0)) says refl

@@ -1,5 +1,7 @@
 pub mod ChangedLaws
 pub mod TightLaws
+pub mod MaskLaws
+pub mod Parts
 pub mod SaysLaws
 pub mod Meaning
 pub mod Agreeing
@@ -9,3 +11,4 @@ pub mod Closing
 pub mod Nowhere
 pub mod AllOpen
 pub mod Surplus
+pub mod Alone

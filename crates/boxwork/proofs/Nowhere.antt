@@ -16,6 +16,7 @@ use Rattle.geometry.proofs.Order.{≤ℤ-trans}
 use Rattle.geometry.proofs.SmallestLaws.{low-corner, smallest-same, smallest-self, smallest-unique}
 use Rattle.geometry.proofs.MarkLaws.{mark-none, mark-test, reversed-mark, shaped-unique}
 use Rattle.geometry.proofs.Tests.{shaped-yes, yes-shaped}
+use Rattle.passing.specs.Signs.{boxesAlone, boxSigns}
 use Rattle.judging.proofs.FineLaws.{build-fine, check-fine, update-fine}
 use Rattle.boxwork.specs.Tight.{Tight, Updated}
 use Rattle.boxwork.specs.Nowhere.{Nowhere, MarkHoldsNothing, OnlyTheMark, TenExactly, Tight01, NowhereMark, ClosedMark, BoxAsBefore, MarkTakes, MarkAddsNothing, OnlyEnlarges}
@@ -72,7 +73,7 @@ module _ {N : Net} {x y : List ℤ} {e t : ℕ} (i : InS N e t) where
 
 module _ (n m : ℕ) (R : Rows) (x y before boxes : List ℤ) where
   pub nowhere-mark : NowhereMark n m R x y before boxes
-  nowhere-mark b e low high = let t = build-accepts b refl .1 .entries e low high in (around-mark t, around-none t)
+  nowhere-mark b e low high = let t = build-accepts b refl .1 .drawn refl .entries e low high in (around-mark t, around-none t)
 
   pub closed-mark : ClosedMark n m R x y before boxes
   closed-mark b e low high shut = nowhere-mark b e low high .1 (λ t. closed-empty n m R e t shut)
@@ -80,8 +81,8 @@ module _ (n m : ℕ) (R : Rows) (x y before boxes : List ℤ) where
   pub box-as-before : BoxAsBefore n m R x y before boxes
   box-as-before b e t i =
       let h = build-accepts b refl in
-      let r = inS-range (build-fine n m R x y before (h .0) .sound) i in
-      before-exactly i (h .1 .entries e (r .0) (r .1))
+      let r = inS-range (build-fine boxesAlone n m R (boxSigns x y before) (h .0) .sound) i in
+      before-exactly i (h .1 .drawn refl .entries e (r .0) (r .1))
 
 -- ---- What an update makes of a box
 
@@ -108,7 +109,7 @@ module _ (n m : ℕ) (R : Rows) (x y before : List ℤ) (arc weight closure : �
   pub mark-adds-nothing : MarkAddsNothing n m R x y before arc weight closure R′ boxes
   mark-adds-nothing u e low high none =
       let h = update-accepts u refl in
-      let shaped = check-fine n m R x y before (update-fine n m R x y before arc weight closure (h .0) .0) .1 in
+      let shaped = check-fine boxesAlone n m R (boxSigns x y before) (update-fine boxesAlone n m R (boxSigns x y before) arc weight closure (h .0) .0) .shaped refl in
       mark-adds′ (shaped .each e low high) (rw (h .1) at none) (h .2 .entries e low high)
 
   pub only-enlarges : OnlyEnlarges n m R x y before arc weight closure R′ boxes

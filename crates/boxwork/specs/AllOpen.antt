@@ -11,7 +11,9 @@ use Rattle.rules.specs.Paper.{Reply}
 use Rattle.rules.specs.Judging.{inTurn}
 use Rattle.walks.specs.Rows.{Rows, at, laid}
 use Rattle.judging.specs.Order.{arcsJudged, searchedBy, placedBy, shapedBy, reweighing}
-use Rattle.search.specs.Says.{Says, SearchSays, BoxedSays, holding}
+use Rattle.passing.specs.Signs.{nothing, boxesAlone, noSigns, boxSigns}
+use Rattle.passing.specs.Passing.{passing}
+use Rattle.search.specs.Says.{Says, SearchSays, BoxedSays}
 use Rattle.boxwork.specs.Says.{Builds, Checks, Updates, BuildSays, CheckSays, UpdateSays}
 
 -- the closures of the arcs 1..m are there, and all are 0
@@ -32,23 +34,23 @@ reweighted R arc weight = record {
 
 module _ (n m : ℕ) (R : Rows) where
   abbrev pub Search01 : ℕ → ℕ → List ℕ → Reply → List ℕ → Type 0
-  Search01 s t before reply after = Says (searchedBy (arcsJudged n m R) n s t (length before)) (laid m R) n s t before reply after
+  Search01 s t before reply after = Says (searchedBy (arcsJudged n m R) n m nothing noSigns s t (length before)) (laid m R) n s t before reply after
 
   module _ (x y boxes : List ℤ) where
     abbrev pub Boxed01 : ℕ → ℕ → List ℕ → Reply → List ℕ → Type 0
     Boxed01 s t before reply after =
-        Says (searchedBy (shapedBy (arcsJudged n m R) n m x y boxes) n s t (length before)) (holding x y boxes t (laid m R)) n s t before reply after
+        Says (searchedBy (arcsJudged n m R) n m boxesAlone (boxSigns x y boxes) s t (length before)) (passing boxesAlone (boxSigns x y boxes) t (laid m R)) n s t before reply after
 
     abbrev pub Build01 : Reply → List ℤ → Type 0
-    Build01 reply after = Builds (placedBy (arcsJudged n m R) n m x y boxes true) (laid m R) m x y boxes reply after
+    Build01 reply after = Builds (placedBy (arcsJudged n m R) n m boxesAlone (boxSigns x y boxes) true) (laid m R) m boxesAlone (boxSigns x y boxes) reply after []
 
     abbrev pub Check01 : Reply → Type 0
-    Check01 reply = Checks (shapedBy (arcsJudged n m R) n m x y boxes true) (laid m R) x y boxes reply
+    Check01 reply = Checks (shapedBy (arcsJudged n m R) n m boxesAlone (boxSigns x y boxes) true) (laid m R) boxesAlone (boxSigns x y boxes) reply
 
     abbrev pub Update01 : ℕ → ℕ → Reply → Rows → List ℤ → Type 0
     Update01 arc weight reply rows after =
         let R′ = reweighted R arc weight in
-        let judged = inTurn (shapedBy (arcsJudged n m R) n m x y boxes true ∷ reweighing m arc weight ∷ []) in
+        let judged = inTurn (shapedBy (arcsJudged n m R) n m boxesAlone (boxSigns x y boxes) true ∷ reweighing m arc weight ∷ []) in
         Updates judged R R′ (laid m R′) m x y boxes reply rows after
 
 -- ---- Nothing was lost

@@ -5,10 +5,12 @@ use mathlib.Core.Logic.{_≢_}
 use mathlib.Core.List.{List, [], _∷_}
 use lib.IntN.{ℤ}
 use lib.ListN.{getD}
+use Rattle.rules.specs.declared.Asked.{Asked}
 use Rattle.rules.specs.Paper.{accepted}
 use Rattle.walks.specs.Rows.{Rows, at, network}
 use Rattle.walks.specs.Through.{InS}
-use Rattle.search.specs.Says.{SearchSays, BoxedSays}
+use Rattle.passing.specs.Signs.{Signs}
+use Rattle.search.specs.Says.{SearchBy}
 use Rattle.boxwork.specs.Says.{UpdateSays}
 
 -- the arc stands in none of the row's first k places
@@ -21,14 +23,8 @@ module _ (n m : ℕ) (R : Rows) where
   ClosedEmpty = (e t : ℕ) → at (R .closures) e ≡ 1 → ¬ InS (network m R) e t
 
   module _ (x y before : List ℤ) (arc weight : ℕ) (R′ : Rows) (boxes : List ℤ) where
-    -- After an update that closes an arc no search uses it: none without boxes, `search-after-closing`
+    -- After an update that closes an arc no search uses it, whatever it goes by. `search-after-closing`
     abbrev pub SearchAfterClosing : Type 0
     SearchAfterClosing =
-        UpdateSays n m R x y before arc weight 1 (accepted []) R′ boxes → (s t : ℕ) (row after : List ℕ) (d k c : ℕ)
-        → SearchSays n m R′ s t row (accepted (d ∷ k ∷ c ∷ [])) after → NotAmong arc k after
-
-    -- and none with boxes, be they these or others. `boxed-after-closing`
-    abbrev pub BoxedAfterClosing : Type 0
-    BoxedAfterClosing =
-        UpdateSays n m R x y before arc weight 1 (accepted []) R′ boxes → (x′ y′ boxes′ : List ℤ) (s t : ℕ) (row after : List ℕ) (d k c : ℕ)
-        → BoxedSays n m R′ x′ y′ boxes′ s t row (accepted (d ∷ k ∷ c ∷ [])) after → NotAmong arc k after
+        UpdateSays n m R x y before arc weight 1 (accepted []) R′ boxes → (asked : Asked) (G : Signs) (s t : ℕ) (row after : List ℕ) (d k c : ℕ)
+        → SearchBy asked n m R′ G s t row (accepted (d ∷ k ∷ c ∷ [])) after → NotAmong arc k after

@@ -1,4 +1,4 @@
--- The box around a set of nodes, the tight box of an arc, what an update makes of a box, and boxes that hold their S(e).
+-- The box around a set of nodes, the tight box of an arc, and what an update makes of a box.
 use Prim.Native.Nat.{ℕ}
 use mathlib.Core.Path.{_≡_}
 use mathlib.Core.Logic.{_⊎_}
@@ -7,7 +7,7 @@ use lib.IntN.{ℤ}
 use Rattle.walks.specs.Walk.{Net}
 use Rattle.walks.specs.Through.{InS}
 use Rattle.geometry.specs.Box.{Box, Holds, WellShaped, Smallest}
-use Rattle.geometry.specs.Row.{coordinate, boxOf}
+use Rattle.geometry.specs.Row.{coordinate}
 
 -- (px, py) is the place of a node
 abbrev pub PlaceOf : List ℤ → List ℤ → ℕ → ℤ → ℤ → Type 0
@@ -34,7 +34,3 @@ pub record Updated (N : Net) (x y : List ℤ) (e : ℕ) (old new : Box) : Type 0
   pub is-tight : Tight N x y e tight
   pub smallest : Smallest (λ px py. Holds old px py ⊎ Holds tight px py) new
   pub shaped : WellShaped new
-
--- arc e's box holds the node t
-abbrev pub HoldsNode : List ℤ → List ℤ → List ℤ → ℕ → ℕ → Type 0
-HoldsNode x y boxes e t = Holds (boxOf boxes e) (coordinate x t) (coordinate y t)

@@ -1,5 +1,6 @@
 -- The calls on a network: what each is replied, and what it leaves in its rows.
 use Prim.Native.Nat.{ℕ}
+use mathlib.Core.Bool.{true, false}
 use mathlib.Core.List.{List}
 use lib.IntN.{ℤ}
 use Rattle.walks.specs.Rows as walks
@@ -30,8 +31,8 @@ workCall work.Check = call.Check
 workCall (work.Update arc weight closure) = call.Update arc weight closure
 
 abbrev pub tripCall : Trip → Call
-tripCall (trip.Plain s t) = call.Search s t
-tripCall (trip.Boxed s t) = call.Boxed s t
+tripCall (trip.Search true s t) = call.Boxed s t
+tripCall (trip.Search false s t) = call.Search s t
 tripCall (trip.Why s t arc) = call.Why s t arc
 
 abbrev pub taskCall : Task → Call

@@ -12,6 +12,7 @@ use pages::PAGE;
 use replies::answers::put_answer;
 use replies::why::put_reason;
 use replies::words::put_judged;
+use rules::Asked;
 
 // The calls that write weights, closures and boxes.
 pub enum BoxWork {
@@ -22,8 +23,7 @@ pub enum BoxWork {
 
 // The calls that write the route row alone, or nothing.
 pub enum Trip {
-    Plain(u32, u32),
-    Boxed(u32, u32),
+    Search(bool, u32, u32),
     Why(u32, u32, u32),
 }
 
@@ -40,8 +40,8 @@ pub fn task_of(call: Call) -> Task
         Call::Build => Task::Boxes(BoxWork::Build),
         Call::Check => Task::Boxes(BoxWork::Check),
         Call::Update(arc, weight, closure) => Task::Boxes(BoxWork::Update(arc, weight, closure)),
-        Call::Search(s, t) => Task::Route(Trip::Plain(s, t)),
-        Call::Boxed(s, t) => Task::Route(Trip::Boxed(s, t)),
+        Call::Search(s, t) => Task::Route(Trip::Search(false, s, t)),
+        Call::Boxed(s, t) => Task::Route(Trip::Search(true, s, t)),
         Call::Why(s, t, arc) => Task::Route(Trip::Why(s, t, arc)),
     }
 }
@@ -64,13 +64,46 @@ pub fn work_on_boxes(
 {
     let n = sizes.n;
     let m = sizes.m;
+    let asked = Asked {
+        boxes: true,
+        masks: false,
+    };
+    // of masks nothing is asked
+    let modules = [0u32; 1];
+    let mut masks = [0u32; 1];
     match work {
         BoxWork::Build => {
-            let j = boxwork::build(n, m, tails, heads, weights, closures, x, y, boxes);
+            let j = boxwork::build(
+                asked,
+                n,
+                m,
+                tails,
+                heads,
+                weights,
+                closures,
+                x,
+                y,
+                boxes,
+                &modules,
+                &mut masks,
+            );
             return put_judged(page, j);
         }
         BoxWork::Check => {
-            let j = boxwork::check(n, m, tails, heads, weights, closures, x, y, boxes);
+            let j = boxwork::check(
+                asked,
+                n,
+                m,
+                tails,
+                heads,
+                weights,
+                closures,
+                x,
+                y,
+                boxes,
+                &modules,
+                &masks,
+            );
             return put_judged(page, j);
         }
         BoxWork::Update(arc, weight, closure) => {
@@ -114,12 +147,15 @@ pub fn make_trip(
     let n = sizes.n;
     let m = sizes.m;
     match trip {
-        Trip::Plain(s, t) => {
-            let a = search::search(n, m, tails, heads, weights, closures, s, t, route);
-            return put_answer(page, a, route);
-        }
-        Trip::Boxed(s, t) => {
-            let a = search::search_boxed(
+        Trip::Search(by_boxes, s, t) => {
+            let asked = Asked {
+                boxes: by_boxes,
+                masks: false,
+            };
+            // of masks nothing is asked
+            let none = [0u32; 1];
+            let a = search::search(
+                asked,
                 n,
                 m,
                 tails,
@@ -129,6 +165,8 @@ pub fn make_trip(
                 x,
                 y,
                 boxes,
+                &none,
+                &none,
                 s,
                 t,
                 route,

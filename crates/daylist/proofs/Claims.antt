@@ -1,16 +1,15 @@
 -- The claims of request g.
 use Prim.Native.Nat.{ℕ, zero, suc, _≤_, _<_}
 use mathlib.Core.Path.{_≡_, refl, sym, ap, _∙_}
-use mathlib.Core.Bool.{Bool, true, false, false≢true}
+use mathlib.Core.Bool.{true}
 use mathlib.Core.Logic.{_↔_}
 use mathlib.Core.List.{List, [], _∷_, _++_, map}
 use native.Mathlib.Omega.{arith}
-use lib.Dec.{leb}
 use lib.IntN.{ℤ}
 use lib.ListN.{length, getD, drop, replicate}
 use borrow.Author.Tests.{le-leb}
 use Rattle.rules.specs.Paper.{Reply, accepted, refusal}
-use Rattle.rules.specs.Judging.{orElse, passes}
+use Rattle.rules.specs.Judging.{orElse}
 use Rattle.rules.proofs.PaperLaws.{refusal-injective}
 use Rattle.rules.specs.declared.Judged.{Judged}
 use Rattle.rules.specs.declared.Judged.the-variants.{Fine, Refused}
@@ -23,16 +22,17 @@ use Rattle.dimacs.specs.Reading.{readP2p}
 use Rattle.dimacs.proofs.Accepted.{not-accepted, p2p-read, p2p-query}
 use Rattle.walks.specs.Rows.{Rows, network, Sound}
 use Rattle.walks.specs.Least.{Reached}
-use Rattle.judging.specs.Order.{networkJudged, ends, searchedBy, shapedBy, boxedJudged, dayJudged}
+use Rattle.passing.specs.Signs.{boxesAlone, boxSigns}
+use Rattle.passing.specs.Passing.{passing}
+use Rattle.judging.specs.Order.{networkJudged, ends, searchedBy, shapedBy, searchJudged, dayJudged}
 use Rattle.search.specs.Says as search
-use Rattle.search.specs.Says.{Answers, BoxedSays, holding}
+use Rattle.search.specs.Says.{Answers}
 use Rattle.search.proofs.SaysLaws.{answers-unique}
 use Rattle.daylist.specs.Replies.{Replies, then, hasRoute, noRoute, entry, withRoute, withNone, total}
 use Rattle.daylist.specs.Says.{DaySays, text-refused, rows-refused, answered}
-use Rattle.daylist.specs.Steps.{Asked}
 use Rattle.daylist.specs.Claims as claims
 use Rattle.daylist.specs.Claims.{Separate, no-more}
-use Rattle.daylist.proofs.ReplyLaws.{replies-unique, replies-long}
+use Rattle.daylist.proofs.ReplyLaws.{replies-unique}
 use Rattle.daylist.proofs.QueryLaws.{some-asked}
 use Rattle.daylist.proofs.ReadLaws.{day-lent}
 
@@ -85,7 +85,7 @@ module _ (text : List ℕ) (n m : ℕ) (R : Rows) (x y boxes : List ℤ) (before
       only : (reply : Reply) (after : List ℕ) → DaySays text n m R x y boxes before reply after → claims.ExactlyOne text n m R x y boxes before
       only reply after d = (reply, after, d, λ other row o. day-unique o d)
 
-      by-rows : (problem : Numbers) (queries : List Numbers) (j : Judged) → readP2p text n before ≡ read problem queries → dayJudged n m R x y boxes ≡ j
+      by-rows : (problem : Numbers) (queries : List Numbers) (j : Judged) → readP2p text n before ≡ read problem queries → dayJudged boxesAlone n m R (boxSigns x y boxes) ≡ j
           → claims.ExactlyOne text n m R x y boxes before
       by-rows problem queries Fine e f =
           let r = some-replies (day-lent n m R x y boxes f .sound) x y boxes queries (read-named text n before problem queries e) in
@@ -93,7 +93,7 @@ module _ (text : List ℕ) (n m : ℕ) (R : Rows) (x y boxes : List ℤ) (before
       by-rows problem queries (Refused r) e f = only _ _ (rows-refused e f)
 
       by-text : (o : Outcome) → readP2p text n before ≡ o → claims.ExactlyOne text n m R x y boxes before
-      by-text (read problem queries) e = by-rows problem queries (dayJudged n m R x y boxes) e refl
+      by-text (read problem queries) e = by-rows problem queries (dayJudged boxesAlone n m R (boxSigns x y boxes)) e refl
       by-text (refused r) e = only _ _ (text-refused e)
 
 -- ---- separate searches
@@ -104,18 +104,18 @@ or-fine (Refused r) = refl
 
 module _ (n m : ℕ) (R : Rows) (x y boxes : List ℤ) where
   -- a search whose ends are nodes, and whose route row has n places, is judged as the list is
-  judged-as-day : (s t places : ℕ) → n ≤ places → 1 ≤ s → s ≤ n → 1 ≤ t → t ≤ n → boxedJudged n m R x y boxes s t places ≡ dayJudged n m R x y boxes
-  unfolding boxedJudged searchedBy dayJudged
+  judged-as-day : (s t places : ℕ) → n ≤ places → 1 ≤ s → s ≤ n → 1 ≤ t → t ≤ n → searchJudged boxesAlone n m R (boxSigns x y boxes) s t places ≡ dayJudged boxesAlone n m R (boxSigns x y boxes)
+  unfolding searchedBy searchJudged dayJudged
   judged-as-day s t places long a b c d =
-      rw (le-leb n places long, le-leb 1 s a, le-leb s n b, le-leb 1 t c, le-leb t n d) (or-fine (shapedBy (networkJudged n m R) n m x y boxes true))
+      rw (le-leb n places long, le-leb 1 s a, le-leb s n b, le-leb 1 t c, le-leb t n d) (or-fine (shapedBy (networkJudged n m R) n m boxesAlone (boxSigns x y boxes) true))
 
   -- the answer is the same without a route row
-  bare : {s t : ℕ} {route reply-row : List ℕ} {reply : Reply} → Answers (holding x y boxes t (network m R)) n s t route reply reply-row
-      → (after : List ℕ) × Answers (holding x y boxes t (network m R)) n s t [] reply after
+  bare : {s t : ℕ} {route reply-row : List ℕ} {reply : Reply} → Answers (passing boxesAlone (boxSigns x y boxes) t (network m R)) n s t route reply reply-row
+      → (after : List ℕ) × Answers (passing boxesAlone (boxSigns x y boxes) t (network m R)) n s t [] reply after
   bare (search.found f) = (_, search.found f)
   bare (search.none f) = (_, search.none f)
 
-  pub separate-replies : dayJudged n m R x y boxes ≡ Fine → {queries : List Numbers} {replies : List Reply} → Named n queries → Separate n m R x y boxes queries replies
+  pub separate-replies : dayJudged boxesAlone n m R (boxSigns x y boxes) ≡ Fine → {queries : List Numbers} {replies : List Reply} → Named n queries → Separate n m R x y boxes queries replies
       → Replies n m R x y boxes queries replies
   separate-replies fine h no-more = Replies.none
   separate-replies fine {queries = q ∷ queries} h (claims.then {route = route} long (search.refused e) more) =
@@ -125,7 +125,7 @@ module _ (n m : ℕ) (R : Rows) (x y boxes : List ℤ) where
   separate-replies fine {queries = q ∷ queries} h (claims.then long (search.answered e a) more) =
       then (bare a .1) (separate-replies fine (named-rest n q queries h) more)
 
-  separate-refused : (r : Refusal) → dayJudged n m R x y boxes ≡ Refused r → {queries : List Numbers} {replies : List Reply} → Named n queries
+  separate-refused : (r : Refusal) → dayJudged boxesAlone n m R (boxSigns x y boxes) ≡ Refused r → {queries : List Numbers} {replies : List Reply} → Named n queries
       → Separate n m R x y boxes queries replies → replies ≡ replicate (length queries) (refusal r)
   separate-refused r judged h no-more = refl
   separate-refused r judged {queries = q ∷ queries} h (claims.then {route = route} long (search.refused {r = r′} e) more) =
@@ -141,7 +141,7 @@ module _ (n m : ℕ) (R : Rows) (x y boxes : List ℤ) where
 module _ (text : List ℕ) (n m : ℕ) (R : Rows) (x y boxes : List ℤ) (before : List ℕ) where
   -- what an accepted list says
   record Ran (problem : Numbers) (queries : List Numbers) (results after : List ℕ) : Type 0 where
-    pub fine : dayJudged n m R x y boxes ≡ Fine
+    pub fine : dayJudged boxesAlone n m R (boxSigns x y boxes) ≡ Fine
     pub replies : List Reply
     pub each : Replies n m R x y boxes queries replies
     pub told : results ≡ withRoute replies ∷ withNone replies ∷ total replies ∷ []
@@ -171,7 +171,7 @@ module _ (text : List ℕ) (n m : ℕ) (R : Rows) (x y boxes : List ℤ) (before
   refused-keeps r after says = kept r says refl
 
   by-rows : (problem : Numbers) (queries : List Numbers) (r : Refusal) {reply : Reply} {after : List ℕ} → readP2p text n before ≡ read problem queries
-      → DaySays text n m R x y boxes before reply after → reply ≡ refusal r → dayJudged n m R x y boxes ≡ Refused r
+      → DaySays text n m R x y boxes before reply after → reply ≡ refusal r → dayJudged boxesAlone n m R (boxSigns x y boxes) ≡ Refused r
   by-rows problem queries r e (text-refused d) f = absurd (let z : _≡_ {A = ℕ} 0 1 = cc in omega arith)
   by-rows problem queries r e (rows-refused {r = r′} d j) f = rw (← refusal-injective r′ r f) j
   by-rows problem queries r e (answered d j rs) f = absurd (not-accepted r _ (sym f))
@@ -184,8 +184,8 @@ module _ (text : List ℕ) (n m : ℕ) (R : Rows) (x y boxes : List ℤ) (before
 
 module _ {n m : ℕ} {R : Rows} (sound : Sound n m R) (x y boxes : List ℤ) where
   -- one query
-  marked : (s t : ℕ) → 1 ≤ s → s ≤ n → {reply : Reply} {route : List ℕ} → Answers (holding x y boxes t (network m R)) n s t [] reply route
-      → (entry reply ≡ noRoute) ↔ (¬ Reached (holding x y boxes t (network m R)) s t)
+  marked : (s t : ℕ) → 1 ≤ s → s ≤ n → {reply : Reply} {route : List ℕ} → Answers (passing boxesAlone (boxSigns x y boxes) t (network m R)) n s t [] reply route
+      → (entry reply ≡ noRoute) ↔ (¬ Reached (passing boxesAlone (boxSigns x y boxes) t (network m R)) s t)
   marked s t low high (search.found {d = d} {k = k} {c = c} f) =
       let a = some-asked sound x y boxes s t low high .1 in
       let same : a .reply ≡ accepted (d ∷ k ∷ c ∷ []) = answers-unique (a .answers) (search.found f) .0 in
@@ -201,7 +201,7 @@ module _ {n m : ℕ} {R : Rows} (sound : Sound n m R) (x y boxes : List ℤ) whe
 
   marked-at : (queries : List Numbers) {replies : List Reply} (rest : List ℕ) → Named n queries → Replies n m R x y boxes queries replies → (i : ℕ) → i < length queries
       → let q = getD queries i none in
-      (getD (map entry replies ++ rest) i 0 ≡ noRoute) ↔ (¬ Reached (holding x y boxes (q .second) (network m R)) (q .first) (q .second))
+      (getD (map entry replies ++ rest) i 0 ≡ noRoute) ↔ (¬ Reached (passing boxesAlone (boxSigns x y boxes) (q .second) (network m R)) (q .first) (q .second))
   marked-at [] rest h Replies.none i low = absurd (omega arith)
   marked-at (q ∷ queries) rest h (then a more) zero low = let ends = h 0 (omega arith) in marked (q .first) (q .second) (ends .0) (ends .1) a
   marked-at (q ∷ queries) rest h (then a more) (suc i) low = marked-at queries rest (named-rest n q queries h) more i (omega arith)

@@ -2,20 +2,20 @@
 use Prim.Native.Nat.{ℕ, _+_, _*_, _≤_, _<_}
 use mathlib.Core.Path.{_≡_, refl, ap, subst₂, _∙_}
 use mathlib.Core.Bool.{Bool, true, false, cond}
-use mathlib.Core.List.{List, [], _∷_, _++_, map}
+use mathlib.Core.List.{List, [], _∷_, _++_}
 use native.Mathlib.Omega.{arith}
 use native.Mathlib.Nat.{le-antisymm}
 use lib.Dec.{ltb}
 use lib.IntN.{ℤ}
-use lib.ListN.{length, getD, take, drop, set, length-set}
-use borrow.Author.Tests.{ltb-true}
-use Rattle.rules.specs.Paper.{Reply}
+use lib.ListN.{length, getD, set, length-set}
 use Rattle.scan.specs.Fields.{none}
 use Rattle.scan.specs.declared.holding.Numbers.{Numbers}
 use Rattle.walks.specs.Rows.{Rows, network}
-use Rattle.search.specs.Says.{Answers, holding}
-use Rattle.daylist.specs.Replies.{Replies, hasRoute, lengthTold, noRoute, entry, withRoute, withNone, total}
-use Rattle.daylist.specs.Steps.{Asked, counted, InRows, Answered, AllAnswered}
+use Rattle.passing.specs.Signs.{boxesAlone, boxSigns}
+use Rattle.passing.specs.Passing.{passing}
+use Rattle.search.specs.Says.{Answers}
+use Rattle.daylist.specs.Replies.{Replies, hasRoute, lengthTold, noRoute, withRoute, withNone, total}
+use Rattle.daylist.specs.Steps.{Queried, counted, InRows, Answered, AllAnswered}
 use Rattle.daylist.specs.declared.counting.Totals.{Totals}
 use Rattle.daylist.proofs.ReplyLaws.{one-more, with-route-more, with-none-more, total-more, filled-more, length-more}
 use Rattle.daylist.proofs.QueryLaws.{told-route}
@@ -44,7 +44,7 @@ module _ (n m : ℕ) (R : Rows) (x y boxes : List ℤ) where
   -- ---- one query more
 
   module _ (k : ℕ) (sources targets before after : List ℕ) (T : Totals) (i : ℕ) (g : Going k sources targets before after T i) (more : i < k) (room : k ≤ length before)
-      (s t l : ℕ) (es : s ≡ getD sources i 0) (et : t ≡ getD targets i 0) (a : Asked n m R x y boxes s t l) where
+      (s t l : ℕ) (es : s ≡ getD sources i 0) (et : t ≡ getD targets i 0) (a : Queried n m R x y boxes s t l) where
     -- the totals, by whether there is a route
     sums : (r : ℕ) (h : Bool) (T′ : Totals) → h ≡ ltb l noRoute → l ≡ cond h r noRoute → T′ ≡ counted T l
         → (T′ .found ≡ T .found + cond h 1 0) × (T′ .none ≡ T .none + cond h 0 1) × (T′ .sum ≡ T .sum + cond h r 0)
@@ -61,10 +61,10 @@ module _ (n m : ℕ) (R : Rows) (x y boxes : List ℤ) where
 
     -- the answer is that of the query at place i
     of-query : (queries : List Numbers) → length queries ≡ k → InRows queries sources targets
-        → let q = getD queries i none in Answers (holding x y boxes (q .second) (network m R)) n (q .first) (q .second) [] (a .reply) (a .route)
+        → let q = getD queries i none in Answers (passing boxesAlone (boxSigns x y boxes) (q .second) (network m R)) n (q .first) (q .second) [] (a .reply) (a .route)
     of-query queries e h =
         let low : i < length queries = omega arith in
-        subst₂ (λ (u v : ℕ). Answers (holding x y boxes v (network m R)) n u v [] (a .reply) (a .route)) (es ∙ h .source i low) (et ∙ h .target i low) (a .answers)
+        subst₂ (λ (u v : ℕ). Answers (passing boxesAlone (boxSigns x y boxes) v (network m R)) n u v [] (a .reply) (a .route)) (es ∙ h .source i low) (et ∙ h .target i low) (a .answers)
 
     pub going-on : (T′ : Totals) → T′ ≡ counted T l → Going k sources targets before (set after i l) T′ (i + 1)
     going-on T′ d =

@@ -1,19 +1,20 @@
 -- From a text that was read, and rows that were judged, to what a day's list says.
-use Prim.Native.Nat.{ℕ, _≤_, _<_}
+use Prim.Native.Nat.{ℕ, _≤_}
 use mathlib.Core.Path.{_≡_, refl, sym, ap, _∙_}
-use mathlib.Core.List.{List, [], _∷_, _++_, map}
+use mathlib.Core.Bool.{true}
+use mathlib.Core.List.{List, [], _∷_}
 use native.Mathlib.Omega.{arith}
 use lib.IntN.{ℤ}
 use lib.ListN.{length, getD, drop}
 use lib.Seq.{take-all}
-use Rattle.rules.specs.Paper.{Reply, accepted, refusal}
+use Rattle.rules.specs.Paper.{Reply, accepted}
 use Rattle.rules.proofs.PaperLaws.{refusal-injective}
 use Rattle.rules.specs.declared.Judged.the-variants.{Fine}
 use Rattle.rules.specs.declared.Refusal.{Refusal}
 use Rattle.scan.specs.Fields.{none}
 use Rattle.scan.specs.declared.holding.Numbers.{Numbers}
 use Rattle.dimacs.specs.Rules.{columnOf}
-use Rattle.dimacs.specs.Texts.{Outcome, read, refused, readText}
+use Rattle.dimacs.specs.Texts.{Outcome, read, refused}
 use Rattle.dimacs.specs.Rows.{row}
 use Rattle.dimacs.specs.Reading.{p2pReply, readP2p, p2pSays}
 use Rattle.dimacs.specs.Accepted.{P2pLimits}
@@ -21,25 +22,31 @@ use Rattle.dimacs.specs.Promise.{P2pPromise}
 use Rattle.dimacs.specs.declared.P2pReply.{P2pReply}
 use Rattle.dimacs.specs.declared.P2pReply.the-variants.{Read, Refused}
 use Rattle.dimacs.specs.declared.rows.Column.the-variants.{First, Second}
-use Rattle.dimacs.specs.declared.format.Format.the-variants.{Queries}
 use Rattle.dimacs.proofs.Accepted.{not-accepted, front, p2p-count, p2p-read, read-p2p-limits}
 use Rattle.walks.specs.Rows.{Rows}
-use Rattle.judging.specs.Order.{checkJudged, dayJudged}
-use Rattle.judging.proofs.FineLaws.{build-fine, check-fine}
-use Rattle.daylist.specs.Says.{DaySays, answered}
+use Rattle.passing.specs.Signs.{signs, boxesAlone, boxSigns}
+use Rattle.judging.specs.Order.{networkJudged, placedBy, shapedBy, checkJudged, dayJudged}
+use Rattle.judging.proofs.FineLaws.{check-fine}
+use Rattle.daylist.specs.Says.{answered}
 use Rattle.daylist.specs.Steps.{Lent, InRows, AllAnswered, ReadSays}
 use Rattle.daylist.specs.declared.counting.Totals.{Totals}
 
 -- ---- the rows
 
-pub day-lent : (n m : ℕ) (R : Rows) (x y boxes : List ℤ) → dayJudged n m R x y boxes ≡ Fine → Lent n m R x y boxes
+-- they are judged so whatever modules and masks there are
+pub boxes-judged : (n m : ℕ) (R : Rows) (x y boxes : List ℤ) (modules masks : List ℕ)
+    → shapedBy (networkJudged n m R) n m boxesAlone (signs x y boxes modules masks) true ≡ dayJudged boxesAlone n m R (boxSigns x y boxes)
+unfolding placedBy shapedBy dayJudged
+boxes-judged n m R x y boxes modules masks = refl
+
+pub day-lent : (n m : ℕ) (R : Rows) (x y boxes : List ℤ) → dayJudged boxesAlone n m R (boxSigns x y boxes) ≡ Fine → Lent n m R x y boxes
 unfolding checkJudged dayJudged
 day-lent n m R x y boxes e =
-    let p = check-fine n m R x y boxes e in
-    let l = build-fine n m R x y boxes (p .0) in
-    record { sound = l .sound; x-long = l .x-long; y-long = l .y-long; shaped = p .1 }
+    let p = check-fine boxesAlone n m R (boxSigns x y boxes) e in
+    let places = p .lent .places refl in
+    record { sound = p .lent .sound; x-long = places .x-long; y-long = places .y-long; shaped = p .shaped refl }
 
-pub read-says : (n m : ℕ) (R : Rows) (x y boxes : List ℤ) (k : ℕ) (sources targets before after : List ℕ) (T : Totals) → dayJudged n m R x y boxes ≡ Fine
+pub read-says : (n m : ℕ) (R : Rows) (x y boxes : List ℤ) (k : ℕ) (sources targets before after : List ℕ) (T : Totals) → dayJudged boxesAlone n m R (boxSigns x y boxes) ≡ Fine
     → AllAnswered n m R x y boxes k sources targets before after T
     → ReadSays n m R x y boxes k sources targets before (accepted (T .found ∷ T .none ∷ T .sum ∷ [])) after
 read-says n m R x y boxes k sources targets before after T fine all text problem queries e long rows =

@@ -1,7 +1,7 @@
 -- Replies to queries: one more, their totals, and that there are no others.
-use Prim.Native.Nat.{ℕ, zero, suc, _+_, _*_, _≤_, _<_}
-use mathlib.Core.Path.{_≡_, refl, sym, ap, _∙_}
-use mathlib.Core.Bool.{Bool, true, false, cond}
+use Prim.Native.Nat.{ℕ, suc, _+_, _<_}
+use mathlib.Core.Path.{_≡_, refl, ap, _∙_}
+use mathlib.Core.Bool.{cond}
 use mathlib.Core.List.{List, [], _∷_, _++_, map}
 use native.Mathlib.Omega.{arith}
 use native.Mathlib.Numerals.{add-one}
@@ -12,13 +12,15 @@ use Rattle.rules.specs.Paper.{Reply}
 use Rattle.scan.specs.Fields.{none}
 use Rattle.scan.specs.declared.holding.Numbers.{Numbers}
 use Rattle.walks.specs.Rows.{Rows, network}
-use Rattle.search.specs.Says.{Answers, holding}
+use Rattle.passing.specs.Signs.{boxesAlone, boxSigns}
+use Rattle.passing.specs.Passing.{passing}
+use Rattle.search.specs.Says.{Answers}
 use Rattle.search.proofs.SaysLaws.{answers-unique}
 use Rattle.daylist.specs.Replies.{Replies, then, hasRoute, lengthTold, entry, withRoute, withNone, total}
 
 module _ {n m : ℕ} {R : Rows} {x y boxes : List ℤ} where
   snoc : {queries : List Numbers} {replies : List Reply} (q : Numbers) {reply : Reply} {route : List ℕ} → Replies n m R x y boxes queries replies
-      → Answers (holding x y boxes (q .second) (network m R)) n (q .first) (q .second) [] reply route
+      → Answers (passing boxesAlone (boxSigns x y boxes) (q .second) (network m R)) n (q .first) (q .second) [] reply route
       → Replies n m R x y boxes (queries ++ (q ∷ [])) (replies ++ (reply ∷ []))
   snoc q Replies.none a = then a Replies.none
   snoc q (then b more) a = then b (snoc q more a)
@@ -26,7 +28,7 @@ module _ {n m : ℕ} {R : Rows} {x y boxes : List ℤ} where
   -- one query more
   pub one-more : (queries : List Numbers) (i : ℕ) {replies : List Reply} {reply : Reply} {route : List ℕ} → i < length queries
       → Replies n m R x y boxes (take i queries) replies
-      → let q = getD queries i none in Answers (holding x y boxes (q .second) (network m R)) n (q .first) (q .second) [] reply route
+      → let q = getD queries i none in Answers (passing boxesAlone (boxSigns x y boxes) (q .second) (network m R)) n (q .first) (q .second) [] reply route
       → Replies n m R x y boxes (take (i + 1) queries) (replies ++ (reply ∷ []))
   one-more queries i h r a = rw (add-one i, take-suc queries i none h) (snoc (getD queries i none) r a)
 

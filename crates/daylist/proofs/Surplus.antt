@@ -1,8 +1,8 @@
 -- Surplus is neither read nor written: a list is the list over the rows cut to the places that it needs, and the places of the row of
 -- answers beyond 256 keep their contents.
 use Prim.Native.Nat.{ℕ, _*_, _≤_}
-use mathlib.Core.Path.{_≡_, refl, ap, _∙_}
-use mathlib.Core.List.{List, [], _∷_, _++_, map}
+use mathlib.Core.Path.{_≡_, refl, _∙_}
+use mathlib.Core.List.{List, [], _∷_, map}
 use native.Mathlib.Omega.{arith}
 use lib.IntN.{ℤ}
 use lib.ListN.{length, take, drop, length-map}
@@ -12,11 +12,12 @@ use Rattle.dimacs.specs.Texts.{read}
 use Rattle.dimacs.specs.Reading.{readP2p}
 use Rattle.dimacs.proofs.Accepted.{p2p-count, p2p-read}
 use Rattle.walks.specs.Rows.{Rows}
+use Rattle.passing.specs.Signs.{boxesAlone, boxSigns}
 use Rattle.judging.specs.Cut.{cut}
-use Rattle.judging.specs.Order.{checkJudged, dayJudged}
+use Rattle.judging.specs.Order.{placedBy, shapedBy, checkJudged, dayJudged}
 use Rattle.judging.proofs.CutLaws.{long-cut, check-judged-cut}
 use Rattle.search.proofs.Networks.{answers-alike}
-use Rattle.search.proofs.Surplus.{row-cut, holding-cut}
+use Rattle.search.proofs.Surplus.{row-cut, passing-cut}
 use Rattle.daylist.specs.Replies.{Replies, then, entry}
 use Rattle.daylist.specs.Says.{DaySays, text-refused, rows-refused, answered}
 use Rattle.daylist.proofs.ReplyLaws.{replies-long}
@@ -28,16 +29,16 @@ unfolding readP2p
 text-cut text n before = rw (long-cut 256 before)
 
 module _ (n m : ℕ) (R : Rows) (x y boxes : List ℤ) where
-  rows-cut : dayJudged n m (cut m R) (take n x) (take n y) (take (4 * m) boxes) ≡ dayJudged n m R x y boxes
-  unfolding checkJudged dayJudged
-  rows-cut = check-judged-cut n m R x y boxes
+  rows-cut : dayJudged boxesAlone n m (cut m R) (boxSigns (take n x) (take n y) (take (4 * m) boxes)) ≡ dayJudged boxesAlone n m R (boxSigns x y boxes)
+  unfolding placedBy shapedBy checkJudged dayJudged
+  rows-cut = check-judged-cut n m R boxesAlone (boxSigns x y boxes)
 
   replies-cut : (queries : List Numbers) {replies : List Reply} → Named n queries → Replies n m R x y boxes queries replies
       → Replies n m (cut m R) (take n x) (take n y) (take (4 * m) boxes) queries replies
   replies-cut [] h Replies.none = Replies.none
   replies-cut (q ∷ queries) h (then a more) =
       let ends = h 0 (omega arith) in
-      then (answers-alike (holding-cut n m R (q .first) (q .second) [] x y boxes (ends .2) (ends .3)) a) (replies-cut queries (named-rest n q queries h) more)
+      then (answers-alike (passing-cut boxesAlone n m R (boxSigns x y boxes) (q .second) (ends .2) (ends .3)) a) (replies-cut queries (named-rest n q queries h) more)
 
   module _ (text before : List ℕ) where
     -- a text that was read has at most 256 queries, and the row is long enough

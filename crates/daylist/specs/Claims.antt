@@ -13,7 +13,9 @@ use Rattle.dimacs.specs.Texts.{read}
 use Rattle.dimacs.specs.Reading.{readP2p}
 use Rattle.walks.specs.Rows.{Rows, network}
 use Rattle.walks.specs.Least.{Reached}
-use Rattle.search.specs.Says.{BoxedSays, holding}
+use Rattle.passing.specs.Signs.{boxesAlone, boxSigns}
+use Rattle.passing.specs.Passing.{passing}
+use Rattle.search.specs.Says.{BoxedSays}
 use Rattle.daylist.specs.Replies.{noRoute, entry, withRoute, withNone, total}
 use Rattle.daylist.specs.Says.{DaySays}
 
@@ -57,4 +59,4 @@ module _ (text : List ℕ) (n m : ℕ) (R : Rows) (x y boxes : List ℤ) (before
       (problem : Numbers) (queries : List Numbers) (results after : List ℕ) → readP2p text n before ≡ read problem queries
       → DaySays text n m R x y boxes before (accepted results) after → (i : ℕ) → i < length queries
       → let q = getD queries i none in
-      (getD after i 0 ≡ noRoute) ↔ (¬ Reached (holding x y boxes (q .second) (network m R)) (q .first) (q .second))
+      (getD after i 0 ≡ noRoute) ↔ (¬ Reached (passing boxesAlone (boxSigns x y boxes) (q .second) (network m R)) (q .first) (q .second))

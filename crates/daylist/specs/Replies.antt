@@ -7,14 +7,16 @@ use lib.IntN.{ℤ}
 use Rattle.rules.specs.Paper.{Reply, firstOr0}
 use Rattle.scan.specs.declared.holding.Numbers.{Numbers}
 use Rattle.walks.specs.Rows.{Rows, network}
-use Rattle.search.specs.Says.{Answers, holding}
+use Rattle.passing.specs.Signs.{boxesAlone, boxSigns}
+use Rattle.passing.specs.Passing.{passing}
+use Rattle.search.specs.Says.{Answers}
 
 -- The replies to queries, in their order. That to `q S T`, whose numbers are S and T, is the answer of the search with boxes from S to T;
 -- no route row is lent, so that its row is empty before.
 pub data Replies (n m : ℕ) (R : Rows) (x y boxes : List ℤ) : List Numbers → List Reply → Type 0 where
   none : Replies n m R x y boxes [] []
   then : {q : Numbers} {queries : List Numbers} {reply : Reply} {replies : List Reply} {route : List ℕ}
-      → Answers (holding x y boxes (q .second) (network m R)) n (q .first) (q .second) [] reply route
+      → Answers (passing boxesAlone (boxSigns x y boxes) (q .second) (network m R)) n (q .first) (q .second) [] reply route
       → Replies n m R x y boxes queries replies → Replies n m R x y boxes (q ∷ queries) (reply ∷ replies)
 
 -- a search replies 0, with the length first, or 12: it had a route, or none

@@ -11,6 +11,7 @@ use Rattle.scan.specs.declared.holding.Numbers.{Numbers}
 use Rattle.dimacs.specs.Texts.{read, refused}
 use Rattle.dimacs.specs.Reading.{readP2p}
 use Rattle.walks.specs.Rows.{Rows}
+use Rattle.passing.specs.Signs.{boxesAlone, boxSigns}
 use Rattle.judging.specs.Order.{dayJudged}
 use Rattle.daylist.specs.Replies.{Replies, entry, withRoute, withNone, total}
 
@@ -19,8 +20,8 @@ use Rattle.daylist.specs.Replies.{Replies, entry, withRoute, withNone, t
 pub data DaySays (text : List ℕ) (n m : ℕ) (R : Rows) (x y boxes : List ℤ) (before : List ℕ) : Reply → List ℕ → Type 0 where
   text-refused : {r : Refusal} → readP2p text n before ≡ refused r → DaySays text n m R x y boxes before (refusal r) before
   rows-refused : {problem : Numbers} {queries : List Numbers} {r : Refusal} → readP2p text n before ≡ read problem queries
-      → dayJudged n m R x y boxes ≡ Refused r → DaySays text n m R x y boxes before (refusal r) before
+      → dayJudged boxesAlone n m R (boxSigns x y boxes) ≡ Refused r → DaySays text n m R x y boxes before (refusal r) before
   answered : {problem : Numbers} {queries : List Numbers} {replies : List Reply} → readP2p text n before ≡ read problem queries
-      → dayJudged n m R x y boxes ≡ Fine → Replies n m R x y boxes queries replies
+      → dayJudged boxesAlone n m R (boxSigns x y boxes) ≡ Fine → Replies n m R x y boxes queries replies
       → DaySays text n m R x y boxes before (accepted (withRoute replies ∷ withNone replies ∷ total replies ∷ []))
       (map entry replies ++ drop (length replies) before)

@@ -12,8 +12,10 @@ use Rattle.scan.specs.declared.holding.Numbers.{Numbers}
 use Rattle.dimacs.specs.Texts.{read}
 use Rattle.dimacs.specs.Reading.{readP2p}
 use Rattle.walks.specs.Rows.{Rows, network, Sound}
+use Rattle.passing.specs.Signs.{boxesAlone, boxSigns}
+use Rattle.passing.specs.Passing.{passing}
 use Rattle.geometry.specs.Row.{Shaped}
-use Rattle.search.specs.Says.{Answers, holding}
+use Rattle.search.specs.Says.{Answers}
 use Rattle.daylist.specs.Replies.{Replies, hasRoute, noRoute, entry, withRoute, withNone, total}
 use Rattle.daylist.specs.Says.{DaySays}
 use Rattle.daylist.specs.declared.counting.Totals.{Totals}
@@ -26,10 +28,10 @@ pub record Lent (n m : ℕ) (R : Rows) (x y boxes : List ℤ) : Type 0 where
   pub shaped : Shaped m boxes
 
 -- l is what stands in the row of answers for the query from s to t; a length is far below the mark
-pub record Asked (n m : ℕ) (R : Rows) (x y boxes : List ℤ) (s t l : ℕ) : Type 0 where
+pub record Queried (n m : ℕ) (R : Rows) (x y boxes : List ℤ) (s t l : ℕ) : Type 0 where
   pub reply : Reply
   pub route : List ℕ
-  pub answers : Answers (holding x y boxes t (network m R)) n s t [] reply route
+  pub answers : Answers (passing boxesAlone (boxSigns x y boxes) t (network m R)) n s t [] reply route
   pub told : l ≡ entry reply
   pub near : hasRoute reply ≡ true → l ≤ 511_000_000
 

@@ -4,12 +4,13 @@ ghost use lib.ListN.{length};
 ghost use Rattle.dimacs.specs.Accepted.{P2pLimits};
 ghost use Rattle.frontier.specs.Chain.{Chained};
 ghost use Rattle.walks.specs.Rows.{rows};
-ghost use Rattle.daylist.specs.Steps.{Lent, Asked, AllAnswered};
+ghost use Rattle.daylist.specs.Steps.{Lent, Queried, AllAnswered};
 use crate::counting::NO_ROUTE;
 use crate::counting::Totals;
 use crate::counting::count;
 use frontier::chain::link;
-use settling::Toward;
+use passing::tests_toward;
+use rules::Asked;
 use settling::run::run_along;
 
 // What the search with boxes from `s` to `t` finds, along arcs that are lent chained: the length, or the mark of no route.
@@ -29,9 +30,16 @@ fn ask(
     boxes: &[i32],
 ) -> u32
     requires { ⌜ Lent n m (rows (now tails) (now heads) (now weights) (now closures)) (now x) (now y) (now boxes) × Chained m (now tails) (now first) (now next) × (1 ≤ s) × (s ≤ n) × (1 ≤ t) × (t ≤ n) ⌝ }
-    ensures { λ r. ⌜ Asked n m (rows (now (tails .entry)) (now (heads .entry)) (now (weights .entry)) (now (closures .entry))) (now (x .entry)) (now (y .entry)) (now (boxes .entry)) s t r ⌝ }
+    ensures { λ r. ⌜ Queried n m (rows (now (tails .entry)) (now (heads .entry)) (now (weights .entry)) (now (closures .entry))) (now (x .entry)) (now (y .entry)) (now (boxes .entry)) s t r ⌝ }
 {
-    let at = t - 1;
+    // boxes alone are asked
+    let asked = Asked {
+        boxes: true,
+        masks: false,
+    };
+    let modules = [0u32; 1];
+    let masks = [0u32; 1];
+    let tests = tests_toward(asked, x, y, &modules, t);
     let o = run_along(
         s,
         t,
@@ -43,15 +51,16 @@ fn ask(
         closures,
         first,
         next,
-        Toward::Place(x[at], y[at]),
+        tests,
         boxes,
+        &masks,
     );
     let labels = o.labels;
     let found = o.found;
     if !found {
         return NO_ROUTE;
     }
-    labels.length[at]
+    labels.length[t - 1]
 }
 
 // Answers the first k queries. The arcs are chained once for all of them.

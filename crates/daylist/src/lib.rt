@@ -10,6 +10,7 @@ use asking::answer_each;
 use dimacs::P2pReply;
 use dimacs::read_p2p;
 use judging::network::judge_shaped;
+use rules::Asked;
 use rules::Judged;
 use rules::Refusal;
 
@@ -41,7 +42,28 @@ fn answer_read(
     requires { ⌜ P2pLimits n k (now sources) (now targets) × (256 ≤ length (now answers)) ⌝ }
     ensures { λ r. ⌜ ReadSays n m (rows (now (tails .entry)) (now (heads .entry)) (now (weights .entry)) (now (closures .entry))) (now (x .entry)) (now (y .entry)) (now (boxes .entry)) k (now (sources .entry)) (now (targets .entry)) (now (answers .entry)) (paper r) (now (answers .exit)) ⌝ }
 {
-    let j = judge_shaped(n, m, tails, heads, weights, closures, x, y, boxes, true);
+    // boxes alone are asked
+    let asked = Asked {
+        boxes: true,
+        masks: false,
+    };
+    let modules = [0u32; 1];
+    let masks = [0u32; 1];
+    let j = judge_shaped(
+        asked,
+        n,
+        m,
+        tails,
+        heads,
+        weights,
+        closures,
+        x,
+        y,
+        boxes,
+        &modules,
+        &masks,
+        true,
+    );
     let Judged::Refused(r) = j else {
         let totals = answer_each(
             k as usize,

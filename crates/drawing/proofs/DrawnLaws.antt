@@ -1,6 +1,8 @@
 -- Laws of rows drawn anew: arc by arc, one drawing after another, and that there is one such row only.
 use Prim.Native.Nat.{ℕ, _+_, _-_, _*_, _/_, _%_, _≤_, _<_}
 use mathlib.Core.Path.{_≡_, refl, sym, ap, _∙_, subst}
+use mathlib.Core.Bool.{Bool}
+use mathlib.Core.Logic.{inl, inr}
 use mathlib.Core.List.{List}
 use native.Mathlib.Nat.{mul-suc}
 use native.Mathlib.Numerals.{add-one}
@@ -13,7 +15,8 @@ use Rattle.geometry.specs.Box.{Box}
 use Rattle.geometry.specs.Row.{number, boxFrom, boxOf, withBox}
 use Rattle.geometry.proofs.SmallestLaws.{same-box}
 use Rattle.geometry.proofs.RowLaws.{with-length, with-same, with-other, with-past}
-use Rattle.drawing.specs.Drawn.{Kind, Row, boxRow, singleRow, Drawn}
+use Rattle.settling.proofs.Choice.{either}
+use Rattle.drawing.specs.Drawn.{Kind, Row, boxRow, singleRow, Drawn, DrawnIf}
 
 -- ---- What the laws need of a kind of row
 
@@ -151,3 +154,14 @@ drawn-unique {K} {m = m} {after = after} {after′ = after′} puts one p q =
       | yes low ↦ puts .to-places after after′ m (λ e l u. one e l u _ _ _ (p .entries e l u) (q .entries e l u)) i low
       | no high ↦ p .rest i (omega arith) ∙ sym (q .rest i (omega arith))
     ])
+
+-- ---- Drawn where it is asked
+
+pub if-long : {K : Kind} {Is : ℕ → K .Entry → K .Entry → Type 0} {m : ℕ} {before after : Row K} {asked : Bool} → DrawnIf asked K m Is before after → length after ≡ length before
+if-long {asked = asked} d = elim (either asked) [ inl e ↦ d .drawn e .long | inr e ↦ ap length (d .kept e) ]
+
+pub if-unique : {K : Kind} {put : Row K → ℕ → K .Entry → Row K} {Is : ℕ → K .Entry → K .Entry → Type 0}
+    {m : ℕ} {before after after′ : Row K} {asked : Bool}
+    → Puts K put → ((e : ℕ) → 1 ≤ e → e ≤ m → (b c c′ : K .Entry) → Is e b c → Is e b c′ → c ≡ c′)
+    → DrawnIf asked K m Is before after → DrawnIf asked K m Is before after′ → after ≡ after′
+if-unique {asked = asked} puts one p q = elim (either asked) [ inl e ↦ drawn-unique puts one (p .drawn e) (q .drawn e) | inr e ↦ p .kept e ∙ sym (q .kept e) ]

@@ -1,4 +1,4 @@
 pub mod DrawnLaws
 pub mod Steps
-pub mod GrownLaws
+pub mod GatheredLaws
 pub mod MissedLaws

@@ -1,17 +1,19 @@
--- The first node that a box misses, found node by node.
-use Prim.Native.Nat.{ℕ, _+_, _-_, _≤_, _<_}
+-- The first node that a box or a mask misses, found node by node.
+use Prim.Native.Nat.{ℕ, _+_, _≤_, _<_}
 use mathlib.Core.Path.{_≡_, refl, ap, _∙_}
 use mathlib.Core.Bool.{Bool, true, false}
 use mathlib.Core.List.{List}
 use native.Mathlib.Omega.{arith}
 use native.Mathlib.Decide.{ℕ-discrete}
-use lib.IntN.{ℤ}
 use Rattle.walks.specs.Rows.{Rows}
-use Rattle.geometry.specs.Row.{number, coordinate}
+use Rattle.rules.specs.declared.Asked.{Asked}
+use Rattle.passing.specs.declared.Tests.{Tests}
+use Rattle.passing.specs.Signs.{Signs}
+use Rattle.passing.specs.Asking.{testsToward, keeps}
 use Rattle.drawing.specs.declared.compare.Miss.the-variants.{Nowhere, First}
 use Rattle.drawing.specs.Drawn.{markRow, markOf, Drawn}
 use Rattle.drawing.specs.Leads.{leadsTo, Marked}
-use Rattle.drawing.specs.Missed.{missesPlace, missesNode, BeforeFirst, IsFirst}
+use Rattle.drawing.specs.Missed.{missesBy, missesNode, BeforeFirst, IsFirst}
 
 -- of the nodes 1..t, none passes the test with an arc of 1..below; if below < m, `node` is the lowest that passes it with the arc below + 1
 pub record Lower (test : ℕ → ℕ → Bool) (m t below node : ℕ) : Type 0 where
@@ -77,17 +79,18 @@ module _ {test : ℕ → ℕ → Bool} {n m below node : ℕ} (h : Lower test m 
   pub lower-nowhere : m ≤ below → IsFirst test n m Nowhere
   lower-nowhere l = λ t e a b c d. h .fails t e a b c (omega arith)
 
--- by the marks of the arcs that lead to the node at place t, which is node t + 1
-pub before-node : (R : Rows) (n m : ℕ) (boxes x y : List ℤ) (t : ℕ) {unmarked marked : List Bool} {px py : ℤ} {k e : ℕ}
-    → Drawn markRow k (Marked (leadsTo R n m (t + 1))) unmarked marked → px ≡ number x t → py ≡ number y t
-    → BeforeFirst (missesPlace (markOf marked) boxes px py) k e → BeforeFirst (missesNode R n m boxes x y (t + 1)) k e
+-- by the marks of the arcs that lead to node t
+pub before-node : (R : Rows) (n m : ℕ) (asked : Asked) (G : Signs) (t : ℕ) {tests : Tests} {unmarked marked : List Bool} {k e : ℕ}
+    → Drawn markRow k (Marked (leadsTo R n m t)) unmarked marked → tests ≡ testsToward asked (G .x) (G .y) (G .modules) t
+    → BeforeFirst (missesBy (markOf marked) (keeps tests (R .closures) (G .boxes) (G .masks))) k e → BeforeFirst (missesNode R n m asked G t) k e
 unfolding missesNode
-before-node R n m boxes x y t {marked = marked} {px = px} {py = py} {k = k} {e = e} marks ex ey h = record {
+before-node R n m asked G t {tests = tests} {marked = marked} {k = k} {e = e} marks told h = record {
   most = h .most;
   fails = λ i low high. same i low (omega (arith, h .most)) ∙ h .fails i low high;
   passes = λ l. same (e + 1) (omega arith) (omega arith) ∙ h .passes l;
 }
   where
     same : (i : ℕ) → 1 ≤ i → i ≤ k
-        → missesPlace (leadsTo R n m (t + 1)) boxes (coordinate x (t + 1)) (coordinate y (t + 1)) i ≡ missesPlace (markOf marked) boxes px py i
-    same i low high = let back : t + 1 - 1 ≡ t = omega arith in rw (marks .entries i low high, ex, ey, back) refl
+        → missesBy (leadsTo R n m t) (keeps (testsToward asked (G .x) (G .y) (G .modules) t) (R .closures) (G .boxes) (G .masks)) i
+        ≡ missesBy (markOf marked) (keeps tests (R .closures) (G .boxes) (G .masks)) i
+    same i low high = rw (marks .entries i low high, told) refl

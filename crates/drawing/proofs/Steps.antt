@@ -1,22 +1,18 @@
 -- The loops' steps: what one arc, and one node, adds.
-use Prim.Native.Nat.{ℕ, suc, _+_, _-_, _*_, _≤_, _<_}
+use Prim.Native.Nat.{ℕ, _+_, _-_, _*_, _≤_, _<_}
 use mathlib.Core.Path.{_≡_, refl, sym, ap, subst, _∙_}
 use mathlib.Core.Bool.{Bool, true, false}
 use mathlib.Core.List.{List}
 use native.Mathlib.Omega.{arith}
 use native.Mathlib.Decide.{ℕ-discrete}
 use native.Mathlib.Numerals.{add-one}
-use lib.IntN.{ℤ}
 use lib.ListN.{length, set, getD}
 use Rattle.walks.specs.Rows.{Rows, Sound}
-use Rattle.geometry.specs.Box.{Box}
-use Rattle.geometry.specs.Hull.{taken}
-use Rattle.geometry.specs.Row.{number, boxOf, withBox}
 use Rattle.drawing.specs.Leads.{leadsB, leadsAt, leadsTo, Marked}
-use Rattle.drawing.specs.Drawn.{boxRow, markRow, markOf, Drawn}
+use Rattle.drawing.specs.Drawn.{Kind, Row, markRow, markOf, Drawn, DrawnIf}
 use Rattle.drawing.specs.Missed.{BeforeFirst}
-use Rattle.drawing.specs.Grown.{grownIf, grownBy, GrownOnce, GrownAll}
-use Rattle.drawing.proofs.DrawnLaws.{puts-box, puts-single, drawn-old, drawn-next, drawn-stays, drawn-self, drawn-then}
+use Rattle.drawing.specs.Gathered.{addIf, gathered, AddedOnce, AddedAll}
+use Rattle.drawing.proofs.DrawnLaws.{Puts, puts-single, drawn-old, drawn-next, drawn-stays, drawn-self, drawn-then}
 
 -- the arc at place j is arc j + 1
 pub leads-next : (R : Rows) (lengths : List ℕ) (j : ℕ) {t : Bool}
@@ -39,36 +35,39 @@ mark-turn R lengths {e} {before} {now} {mark} drawn told room =
     subst (λ (i : ℕ). Drawn markRow (e + 1) (Marked (leadsAt R lengths)) before (set now i mark)) back
     (drawn-next (puts-single false) drawn mark (omega arith) (sym (leads-next R lengths e (sym told))))
 
--- its box grows, or stays
-module _ (leads : ℕ → Bool) (px py : ℤ) {e : ℕ} {before now after : List ℤ} (drawn : Drawn boxRow e (GrownOnce leads px py) before now) where
-  pub grow-turn : leads (e + 1) ≡ true → 4 * (e + 1) ≤ length before → after ≡ withBox now (e + 1) (taken (boxOf now (e + 1)) px py)
-      → Drawn boxRow (e + 1) (GrownOnce leads px py) before after
-  unfolding grownIf
-  grow-turn leading room made =
-      rw made (drawn-next puts-box drawn _ room (ap (λ (b : Box). taken b px py) (drawn-old puts-box drawn) ∙ rw leading refl))
+-- its entry has a node added, or stays
+module _ {K : Kind} {put : Row K → ℕ → K .Entry → Row K} (puts : Puts K put) (leads : ℕ → Bool) (add : K .Entry → K .Entry)
+    {e : ℕ} {before now after : Row K} (drawn : Drawn K e (AddedOnce leads add) before now)
+  where
+    pub add-turn : leads (e + 1) ≡ true → K .places * (e + 1) ≤ length before → after ≡ put now (e + 1) (add (K .entry now (e + 1)))
+        → Drawn K (e + 1) (AddedOnce leads add) before after
+    unfolding addIf
+    add-turn leading room made =
+        rw made (drawn-next puts drawn _ room (ap add (drawn-old puts drawn) ∙ rw leading refl))
 
-  pub skip-turn : leads (e + 1) ≡ false → after ≡ now → Drawn boxRow (e + 1) (GrownOnce leads px py) before after
-  unfolding grownIf
-  skip-turn other made = rw made (drawn-stays puts-box drawn (rw other refl))
+    pub skip-turn : leads (e + 1) ≡ false → after ≡ now → Drawn K (e + 1) (AddedOnce leads add) before after
+    unfolding addIf
+    skip-turn other made = rw made (drawn-stays puts drawn (rw other refl))
 
--- the node at place t is node t + 1
-grown-next : (leads : ℕ → Bool) (x y : List ℤ) (t : ℕ) (b : Box)
-    → grownIf (leads (t + 1)) (number x t) (number y t) (grownBy leads x y t b) ≡ grownBy leads x y (t + 1) b
-unfolding grownBy
-grown-next leads x y t b = let same : suc t - 1 ≡ t = omega arith in rw (add-one t, same) refl
+-- node by node
+module _ (K : Kind) (R : Rows) (n m : ℕ) (add : ℕ → K .Entry → K .Entry) where
+  gathered-next : (e t : ℕ) (b : K .Entry)
+      → addIf (leadsTo R n m (t + 1) e) (add (t + 1)) (gathered (λ v. leadsTo R n m v e) add t b) ≡ gathered (λ v. leadsTo R n m v e) add (t + 1) b
+  unfolding gathered
+  gathered-next e t b = rw (add-one t) refl
 
-module _ (R : Rows) (n m : ℕ) (x y : List ℤ) where
-  pub grown-none : (row : List ℤ) → Drawn boxRow m (GrownAll (leadsTo R n m) x y 0) row row
-  unfolding grownBy
-  grown-none row = drawn-self m row (λ e b. refl)
+  -- where it is asked, the node t + 1 is added to the entries of the arcs that are marked
+  pub none-yet : (asked : Bool) (row : Row K) → DrawnIf asked K m (AddedAll (leadsTo R n m) add 0) row row
+  unfolding gathered
+  none-yet asked row = record { drawn = λ h. drawn-self m row (λ e b. refl); kept = λ h. refl }
 
-  -- its place grows the boxes of the arcs that are marked
-  pub node-turn : (t : ℕ) {unmarked marked : List Bool} {px py : ℤ} {a b c : List ℤ}
-      → Drawn markRow m (Marked (leadsTo R n m (t + 1))) unmarked marked → px ≡ number x t → py ≡ number y t
-      → Drawn boxRow m (GrownAll (leadsTo R n m) x y t) a b → Drawn boxRow m (GrownOnce (markOf marked) px py) b c
-      → Drawn boxRow m (GrownAll (leadsTo R n m) x y (t + 1)) a c
-  node-turn t marks ex ey p q =
-      drawn-then (λ e low high b d i j. j ∙ rw (i, marks .entries e low high, ex, ey) (grown-next (λ v. leadsTo R n m v e) x y t _)) p q
+  pub node-turn : (t : ℕ) {asked : Bool} {unmarked marked : List Bool} {a b c : Row K} → Drawn markRow m (Marked (leadsTo R n m (t + 1))) unmarked marked
+      → DrawnIf asked K m (AddedAll (leadsTo R n m) add t) a b → DrawnIf asked K m (AddedOnce (markOf marked) (add (t + 1))) b c
+      → DrawnIf asked K m (AddedAll (leadsTo R n m) add (t + 1)) a c
+  node-turn t marks p q = record {
+    drawn = λ h. drawn-then (λ e low high b d i j. j ∙ rw (i, marks .entries e low high) (gathered-next e t _)) (p .drawn h) (q .drawn h);
+    kept = λ h. q .kept h ∙ p .kept h;
+  }
 
 -- the number e + 1 passes a test that the numbers 1..e fail; or none of 1..k passes
 module _ {test : ℕ → Bool} (k : ℕ) where

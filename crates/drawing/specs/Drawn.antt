@@ -1,7 +1,7 @@
 -- Rows that have an entry for each arc, drawn anew.
 use Prim.Native.Nat.{ℕ, _-_, _*_, _≤_}
 use mathlib.Core.Path.{_≡_}
-use mathlib.Core.Bool.{Bool, false}
+use mathlib.Core.Bool.{Bool, true, false}
 use mathlib.Core.List.{List}
 use lib.IntN.{ℤ, pos}
 use lib.ListN.{length, getD}
@@ -31,6 +31,10 @@ singleRow A none = record { Number = A; none = none; places = 1; Entry = A; entr
 abbrev pub markRow : Kind
 markRow = singleRow Bool false
 
+-- masks of arcs
+abbrev pub maskRow : Kind
+maskRow = singleRow ℕ 0
+
 abbrev pub markOf : List Bool → ℕ → Bool
 markOf row e = getD row (e - 1) false
 
@@ -40,3 +44,8 @@ pub record Drawn (K : Kind) (m : ℕ) (Is : ℕ → K .Entry → K .Entry → Ty
   pub entries : (e : ℕ) → 1 ≤ e → e ≤ m → Is e (K .entry before e) (K .entry after e)
   pub rest : (i : ℕ) → K .places * m ≤ i → getD after i (K .none) ≡ getD before i (K .none)
   pub long : length after ≡ length before
+
+-- the row after a call that draws it where that is asked; else it stays as it is
+pub record DrawnIf (asked : Bool) (K : Kind) (m : ℕ) (Is : ℕ → K .Entry → K .Entry → Type 0) (before after : Row K) : Type 0 where
+  pub drawn : asked ≡ true → Drawn K m Is before after
+  pub kept : asked ≡ false → after ≡ before

@@ -1,23 +1,22 @@
--- The first node that a box misses.
+-- The first node that a box or a mask misses.
 use Prim.Native.Nat.{ℕ, _+_, _≤_, _<_}
 use mathlib.Core.Path.{_≡_}
 use mathlib.Core.Bool.{Bool, true, false, not, _&&_}
-use mathlib.Core.List.{List}
-use lib.IntN.{ℤ}
 use Rattle.walks.specs.Rows.{Rows}
-use Rattle.geometry.specs.Box.{holdsB}
-use Rattle.geometry.specs.Row.{coordinate, boxOf}
+use Rattle.rules.specs.declared.Asked.{Asked}
+use Rattle.passing.specs.Signs.{Signs}
+use Rattle.passing.specs.Asking.{testsToward, keeps}
 use Rattle.drawing.specs.declared.compare.Miss.{Miss}
 use Rattle.drawing.specs.declared.compare.Miss.the-variants.{Nowhere, First}
 use Rattle.drawing.specs.Leads.{leadsTo}
 
--- arc e leads to the place, and its box does not hold it
-abbrev pub missesPlace : (ℕ → Bool) → List ℤ → ℤ → ℤ → ℕ → Bool
-missesPlace leads boxes px py e = leads e && not (holdsB (boxOf boxes e) px py)
+-- arc e leads there, and does not pass
+abbrev pub missesBy : (ℕ → Bool) → (ℕ → Bool) → ℕ → Bool
+missesBy leads passes e = leads e && not (passes e)
 
--- the box of arc e misses the node t of its S(e)
-unfoldable pub missesNode : Rows → ℕ → ℕ → List ℤ → List ℤ → List ℤ → ℕ → ℕ → Bool
-missesNode R n m boxes x y t = λ e. missesPlace (leadsTo R n m t) boxes (coordinate x t) (coordinate y t) e
+-- what is asked misses, for arc e, the node t of its S(e)
+unfoldable pub missesNode : Rows → ℕ → ℕ → Asked → Signs → ℕ → ℕ → Bool
+missesNode R n m asked G t = missesBy (leadsTo R n m t) (keeps (testsToward asked (G .x) (G .y) (G .modules) t) (R .closures) (G .boxes) (G .masks))
 
 -- of the numbers 1..k, r stand before the first that passes a test; all k, if none passes
 pub record BeforeFirst (test : ℕ → Bool) (k r : ℕ) : Type 0 where

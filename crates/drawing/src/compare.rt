@@ -1,29 +1,44 @@
-// Boxes compared with the places that they must hold.
+// Boxes and masks compared with the nodes that they must hold.
+ghost use mathlib.Core.Path.{_≡_};
+ghost use mathlib.Core.Bool.{true};
 ghost use Prim.Native.Nat.{_≤_};
 ghost use lib.ListN.{length};
 ghost use Rattle.geometry.specs.Row.{Shaped};
 ghost use Rattle.walks.specs.Rows.{rows, Sound};
+ghost use Rattle.passing.specs.Signs.{signs};
+ghost use Rattle.passing.specs.Asking.{Lent, Room, keeps};
 ghost use Rattle.drawing.specs.Drawn.{markOf};
-ghost use Rattle.drawing.specs.Missed.{missesPlace, missesNode, BeforeFirst, IsFirst};
+ghost use Rattle.drawing.specs.Missed.{missesBy, missesNode, BeforeFirst, IsFirst};
 use crate::mark::mark_toward;
 use frontier::chain::link;
+use passing::Tests;
+use passing::passes;
+use passing::tests_toward;
+use rules::Asked;
 
-// The lowest arc whose box misses a node of its S(e), and then its lowest such node; or that no box misses any.
+// The lowest arc whose box or mask misses a node of its S(e), and then its lowest such node; or that none misses any.
 pub enum Miss {
     Nowhere,
     First { arc: u32, node: u32 },
 }
 
-// How many of the arcs 1..k stand before the first that is marked and whose box does not hold the place.
-fn before_miss(marked: &[bool; 2048], px: i32, py: i32, k: usize, boxes: &[i32]) -> usize
-    requires { ⌜ (k ≤ 2048) × Shaped k (now boxes) ⌝ }
-    ensures { λ r. ⌜ BeforeFirst (missesPlace (markOf (now (marked .entry))) (now (boxes .entry)) px py) k r ⌝ }
+// How many of the arcs 1..k stand before the first that is marked and does not pass the tests.
+fn before_miss(
+    marked: &[bool; 2048],
+    tests: Tests,
+    k: usize,
+    closures: &[u8],
+    boxes: &[i32],
+    masks: &[u32],
+) -> usize
+    requires { ⌜ (k ≤ 2048) × (k ≤ length (now closures)) × Room tests k (now boxes) (now masks) ⌝ }
+    ensures { λ r. ⌜ BeforeFirst (missesBy (markOf (now (marked .entry))) (keeps tests (now (closures .entry)) (now (boxes .entry)) (now (masks .entry)))) k r ⌝ }
 {
     let mut e: usize = 0;
     while e < k {
         let next = e + 1;
         if marked[e] {
-            if !geometry::holds(boxes, next, px, py) {
+            if !passes(tests, closures, boxes, masks, next) {
                 return e;
             }
         }
@@ -32,8 +47,9 @@ fn before_miss(marked: &[bool; 2048], px: i32, py: i32, k: usize, boxes: &[i32])
     k
 }
 
-// The first miss: one labelling for each node t of 1..n, which looks only at arcs below the lowest found so far.
+// The first miss of what is asked: one labelling for each node t of 1..n, which looks only at arcs below the lowest found so far.
 pub fn find_miss(
+    asked: Asked,
     n: usize,
     m: usize,
     tails: &[u32],
@@ -43,9 +59,11 @@ pub fn find_miss(
     x: &[i32],
     y: &[i32],
     boxes: &[i32],
+    modules: &[u32],
+    masks: &[u32],
 ) -> Miss
-    requires { ⌜ Sound n m (rows (now tails) (now heads) (now weights) (now closures)) × (n ≤ length (now x)) × (n ≤ length (now y)) × Shaped m (now boxes) ⌝ }
-    ensures { λ r. ⌜ IsFirst (missesNode (rows (now (tails .entry)) (now (heads .entry)) (now (weights .entry)) (now (closures .entry))) n m (now (boxes .entry)) (now (x .entry)) (now (y .entry))) n m r ⌝ }
+    requires { ⌜ Sound n m (rows (now tails) (now heads) (now weights) (now closures)) × Lent asked n m (signs (now x) (now y) (now boxes) (now modules) (now masks)) × (asked .boxes ≡ true → Shaped m (now boxes)) ⌝ }
+    ensures { λ r. ⌜ IsFirst (missesNode (rows (now (tails .entry)) (now (heads .entry)) (now (weights .entry)) (now (closures .entry))) n m asked (signs (now (x .entry)) (now (y .entry)) (now (boxes .entry)) (now (modules .entry)) (now (masks .entry)))) n m r ⌝ }
 {
     let mut first = [m as u32; 512];
     let mut next = [0u32; 2048];
@@ -68,7 +86,8 @@ pub fn find_miss(
             &next,
             &mut marked,
         );
-        let e = before_miss(&marked, x[t], y[t], below, boxes);
+        let tests = tests_toward(asked, x, y, modules, t + 1);
+        let e = before_miss(&marked, tests, below, closures, boxes, masks);
         if e < below {
             below = e;
             node = t + 1;

@@ -1,5 +1,5 @@
-// Drawing boxes over sound rows. For each node t the arcs whose S(e) has t are marked; then the boxes of the marked arcs are
-// grown by t's place, or compared with it.
+// Boxes and masks drawn over sound rows. For each node t the arcs whose S(e) has t are marked; then the boxes and masks of the
+// marked arcs take in t's place and its module, or are asked whether they pass it.
 pub mod compare;
-pub mod grow;
+pub mod gather;
 mod mark;

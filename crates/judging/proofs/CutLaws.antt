@@ -10,13 +10,15 @@ use lib.IntN.{ℤ, pos}
 use lib.ListN.{length, take, length-take}
 use lib.Seq.{getD-take}
 use lib.Dec.{leb}
-use Rattle.rules.specs.declared.Refusal.the-variants.{BadArc, BadClosure, BadCoordinate, BadBox}
+use Rattle.rules.specs.declared.Asked.{Asked}
+use Rattle.rules.specs.declared.Refusal.the-variants.{BadArc, BadClosure, BadCoordinate, BadModule, BadBox}
 use Rattle.rules.proofs.JudgingLaws.{each-same}
 use Rattle.geometry.specs.Box.{wellShapedB}
 use Rattle.geometry.specs.Row.{boxOf, coordinate}
 use Rattle.walks.specs.Rows.{Rows, at}
-use Rattle.judging.specs.Cut.{cut}
-use Rattle.judging.specs.Order.{arcRowsLong, boxRowsLong, arcs, goodClosure, closures, coordinates, shapes, arcsJudged, networkJudged, searchedBy, placedBy, shapedBy, searchJudged, whyJudged, boxedJudged, buildJudged, checkJudged, updateJudged}
+use Rattle.passing.specs.Signs.{Signs}
+use Rattle.judging.specs.Cut.{cut, cutSigns}
+use Rattle.judging.specs.Order.{arcRowsLong, boxRowsLong, maskRowsLong, arcs, goodClosure, closures, coordinates, moduleNumbers, shapes, arcsJudged, networkJudged, placedBy, shapedBy, searchedBy, searchJudged, whyJudged, buildJudged, checkJudged, updateJudged}
 
 -- ---- A row
 
@@ -58,15 +60,21 @@ module _ (n m : ℕ) (R : Rows) where
 closures-cut : (m : ℕ) (row : List ℕ) → closures m (take m row) ≡ closures m row
 closures-cut m row = each-same _ _ BadClosure m (λ i low high. ap goodClosure (at-cut m row i low high))
 
-module _ (n m : ℕ) (x y boxes : List ℤ) where
-  box-rows-cut : boxRowsLong n m (take n x) (take n y) (take (4 * m) boxes) ≡ boxRowsLong n m x y boxes
-  box-rows-cut = rw (long-cut n x, long-cut n y, long-cut (4 * m) boxes)
+module _ (n m : ℕ) (G : Signs) where
+  box-rows-cut : boxRowsLong n m (take n (G .x)) (take n (G .y)) (take (4 * m) (G .boxes)) ≡ boxRowsLong n m (G .x) (G .y) (G .boxes)
+  box-rows-cut = rw (long-cut n (G .x), long-cut n (G .y), long-cut (4 * m) (G .boxes))
 
-  coordinates-cut : coordinates n (take n x) (take n y) ≡ coordinates n x y
-  coordinates-cut = each-same _ _ BadCoordinate n (λ i low high. rw (place-cut n x i low high, place-cut n y i low high))
+  mask-rows-cut : maskRowsLong n m (take n (G .modules)) (take m (G .masks)) ≡ maskRowsLong n m (G .modules) (G .masks)
+  mask-rows-cut = rw (long-cut n (G .modules), long-cut m (G .masks))
 
-  shapes-cut : shapes m (take (4 * m) boxes) ≡ shapes m boxes
-  shapes-cut = each-same _ _ BadBox m (λ e low high. ap wellShapedB (box-cut m boxes e low high))
+  coordinates-cut : coordinates n (take n (G .x)) (take n (G .y)) ≡ coordinates n (G .x) (G .y)
+  coordinates-cut = each-same _ _ BadCoordinate n (λ i low high. rw (place-cut n (G .x) i low high, place-cut n (G .y) i low high))
+
+  modules-cut : moduleNumbers n (take n (G .modules)) ≡ moduleNumbers n (G .modules)
+  modules-cut = each-same _ _ BadModule n (λ i low high. rw (at-cut n (G .modules) i low high))
+
+  shapes-cut : shapes m (take (4 * m) (G .boxes)) ≡ shapes m (G .boxes)
+  shapes-cut = each-same _ _ BadBox m (λ e low high. ap wellShapedB (box-cut m (G .boxes) e low high))
 
 -- ---- The calls
 
@@ -79,44 +87,33 @@ module _ (n m : ℕ) (R : Rows) where
   unfolding networkJudged
   network-cut others = rw (long-cut m (R .closures), arcs-judged-cut, closures-cut m (R .closures))
 
-  pub search-judged-cut : (s t : ℕ) (route : List ℕ)
-      → searchJudged n m (cut m R) s t (length (take n route)) ≡ searchJudged n m R s t (length route)
-  unfolding searchedBy searchJudged
-  search-judged-cut s t route = rw (long-cut n route, network-cut (leb n (length route)))
-
   pub why-judged-cut : (s t arc : ℕ) → whyJudged n m (cut m R) s t arc ≡ whyJudged n m R s t arc
   unfolding whyJudged
   why-judged-cut s t arc = rw (network-cut true)
 
-  module _ (x y boxes : List ℤ) where
-    placed-cut : (others : Bool) → placedBy (networkJudged n m (cut m R)) n m (take n x) (take n y) (take (4 * m) boxes) others
-        ≡ placedBy (networkJudged n m R) n m x y boxes others
+  module _ (asked : Asked) (G : Signs) where
+    placed-cut : (others : Bool) → placedBy (networkJudged n m (cut m R)) n m asked (cutSigns n m G) others ≡ placedBy (networkJudged n m R) n m asked G others
     unfolding placedBy
-    placed-cut others = rw (box-rows-cut n m x y boxes, network-cut, coordinates-cut n m x y boxes)
+    placed-cut others = rw (box-rows-cut n m G, mask-rows-cut n m G, network-cut, coordinates-cut n m G, modules-cut n m G)
 
-    shaped-cut : (others : Bool) → shapedBy (networkJudged n m (cut m R)) n m (take n x) (take n y) (take (4 * m) boxes) others
-        ≡ shapedBy (networkJudged n m R) n m x y boxes others
+    shaped-cut : (others : Bool) → shapedBy (networkJudged n m (cut m R)) n m asked (cutSigns n m G) others ≡ shapedBy (networkJudged n m R) n m asked G others
     unfolding shapedBy
-    shaped-cut others = rw (placed-cut others, shapes-cut n m x y boxes)
+    shaped-cut others = rw (placed-cut others, shapes-cut n m G)
 
-    pub boxed-judged-cut : (s t : ℕ) (route : List ℕ)
-        → boxedJudged n m (cut m R) (take n x) (take n y) (take (4 * m) boxes) s t (length (take n route))
-        ≡ boxedJudged n m R x y boxes s t (length route)
-    unfolding searchedBy boxedJudged
-    boxed-judged-cut s t route = rw (long-cut n route, shaped-cut (leb n (length route)))
+    pub search-judged-cut : (s t : ℕ) (route : List ℕ)
+        → searchJudged asked n m (cut m R) (cutSigns n m G) s t (length (take n route)) ≡ searchJudged asked n m R G s t (length route)
+    unfolding searchedBy searchJudged
+    search-judged-cut s t route = rw (long-cut n route, shaped-cut (leb n (length route)))
 
-    pub build-judged-cut : buildJudged n m (cut m R) (take n x) (take n y) (take (4 * m) boxes)
-        ≡ buildJudged n m R x y boxes
+    pub build-judged-cut : buildJudged asked n m (cut m R) (cutSigns n m G) ≡ buildJudged asked n m R G
     unfolding buildJudged
     build-judged-cut = placed-cut true
 
-    pub check-judged-cut : checkJudged n m (cut m R) (take n x) (take n y) (take (4 * m) boxes)
-        ≡ checkJudged n m R x y boxes
+    pub check-judged-cut : checkJudged asked n m (cut m R) (cutSigns n m G) ≡ checkJudged asked n m R G
     unfolding checkJudged
     check-judged-cut = shaped-cut true
 
     pub update-judged-cut : (arc weight closure : ℕ)
-        → updateJudged n m (cut m R) (take n x) (take n y) (take (4 * m) boxes) arc weight closure
-        ≡ updateJudged n m R x y boxes arc weight closure
+        → updateJudged asked n m (cut m R) (cutSigns n m G) arc weight closure ≡ updateJudged asked n m R G arc weight closure
     unfolding updateJudged
     update-judged-cut arc weight closure = rw check-judged-cut

@@ -2,17 +2,18 @@
 use Prim.Native.Nat.{ℕ, _≤_}
 use mathlib.Core.Path.{_≡_, ap}
 use mathlib.Core.Bool.{Bool, true}
-use mathlib.Core.List.{List, [], _∷_}
+use mathlib.Core.List.{[], _∷_}
 use native.Mathlib.Omega.{arith}
 use borrow.Author.Tests.{le-leb}
-use lib.IntN.{ℤ}
 use lib.ListN.{length}
 use Rattle.rules.specs.Judging.{orElse, inTurn}
+use Rattle.rules.specs.declared.Asked.{Asked}
 use Rattle.rules.specs.declared.Judged.{Judged}
 use Rattle.rules.specs.declared.Judged.the-variants.{Fine}
 use Rattle.rules.proofs.JudgingLaws.{nothing-follows, each-fine}
 use Rattle.walks.specs.Rows.{Rows, at}
-use Rattle.judging.specs.Order.{closures, reweighing, arcsJudged, networkJudged, searchedBy, placedBy, shapedBy, searchJudged, boxedJudged, buildJudged, checkJudged, updateJudged}
+use Rattle.passing.specs.Signs.{Signs}
+use Rattle.judging.specs.Order.{closures, reweighing, arcsJudged, networkJudged, placedBy, shapedBy, searchedBy, searchJudged, buildJudged, checkJudged, updateJudged}
 
 module _ (n m : ℕ) (R : Rows) (all : (e : ℕ) → 1 ≤ e → e ≤ m → at (R .closures) e ≡ 0) (long : m ≤ length (R .closures)) where
   pub open-judged : (others : Bool) → networkJudged n m R others ≡ arcsJudged n m R others
@@ -24,25 +25,21 @@ module _ (n m : ℕ) (R : Rows) (all : (e : ℕ) → 1 ≤ e → e ≤ m → at 
   same : networkJudged n m R ≡ arcsJudged n m R
   same i others = open-judged others i
 
-  pub search-open : (s t places : ℕ) → searchJudged n m R s t places ≡ searchedBy (arcsJudged n m R) n s t places
-  unfolding searchJudged
-  search-open s t places = ap (λ (judged : Bool → Judged). searchedBy judged n s t places) same
+  module _ (asked : Asked) (G : Signs) where
+    pub search-open : (s t places : ℕ) → searchJudged asked n m R G s t places ≡ searchedBy (arcsJudged n m R) n m asked G s t places
+    unfolding searchJudged
+    search-open s t places = ap (λ (judged : Bool → Judged). searchedBy judged n m asked G s t places) same
 
-  module _ (x y boxes : List ℤ) where
-    pub boxed-open : (s t places : ℕ) → boxedJudged n m R x y boxes s t places ≡ searchedBy (shapedBy (arcsJudged n m R) n m x y boxes) n s t places
-    unfolding boxedJudged
-    boxed-open s t places = ap (λ (judged : Bool → Judged). searchedBy (shapedBy judged n m x y boxes) n s t places) same
-
-    pub build-open : buildJudged n m R x y boxes ≡ placedBy (arcsJudged n m R) n m x y boxes true
+    pub build-open : buildJudged asked n m R G ≡ placedBy (arcsJudged n m R) n m asked G true
     unfolding buildJudged
-    build-open = ap (λ (judged : Bool → Judged). placedBy judged n m x y boxes true) same
+    build-open = ap (λ (judged : Bool → Judged). placedBy judged n m asked G true) same
 
-    pub check-open : checkJudged n m R x y boxes ≡ shapedBy (arcsJudged n m R) n m x y boxes true
+    pub check-open : checkJudged asked n m R G ≡ shapedBy (arcsJudged n m R) n m asked G true
     unfolding checkJudged
-    check-open = ap (λ (judged : Bool → Judged). shapedBy judged n m x y boxes true) same
+    check-open = ap (λ (judged : Bool → Judged). shapedBy judged n m asked G true) same
 
     -- an update that leaves its arc open
     pub update-open : (arc weight : ℕ)
-        → updateJudged n m R x y boxes arc weight 0 ≡ inTurn (shapedBy (arcsJudged n m R) n m x y boxes true ∷ reweighing m arc weight ∷ [])
+        → updateJudged asked n m R G arc weight 0 ≡ inTurn (shapedBy (arcsJudged n m R) n m asked G true ∷ reweighing m arc weight ∷ [])
     unfolding updateJudged
-    update-open arc weight = rw check-open (ap (orElse (shapedBy (arcsJudged n m R) n m x y boxes true)) (nothing-follows _))
+    update-open arc weight = rw check-open (ap (orElse (shapedBy (arcsJudged n m R) n m asked G true)) (nothing-follows _))

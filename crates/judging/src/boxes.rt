@@ -1,11 +1,12 @@
 // Refusal 10: a box is not well shaped.
 ghost use mathlib.Core.Path.{_≡_};
+ghost use mathlib.Core.Bool.{true};
 ghost use Prim.Native.Nat.{_+_, _*_, _≤_, _<_};
 ghost use lib.ListN.{length};
 ghost use Rattle.rules.specs.Judging.{isFine};
 ghost use Rattle.geometry.specs.Box.{sidesB, noSidesB, wellShapedB};
 ghost use Rattle.geometry.specs.Row.{boxFrom};
-ghost use Rattle.judging.specs.Order.{shapes};
+ghost use Rattle.judging.specs.Order.{whenAsked, shapes};
 use rules::Judged;
 use rules::LEAST_COORDINATE;
 use rules::MOST_COORDINATE;
@@ -52,11 +53,14 @@ fn all_boxes_good(m: usize, boxes: &[i32]) -> bool
     good
 }
 
-// Refusal 10 of the lowest arc of 1..m whose box is not well shaped.
-pub fn judge_boxes(m: usize, boxes: &[i32]) -> Judged
-    requires { ⌜ (m ≤ 2048) × (4 * m ≤ length (now boxes)) ⌝ }
-    ensures { λ r. ⌜ r ≡ shapes m (now (boxes .entry)) ⌝ }
+// Refusal 10 of the lowest arc of 1..m whose box is not well shaped, where boxes are asked.
+pub fn judge_boxes(asked: bool, m: usize, boxes: &[i32]) -> Judged
+    requires { ⌜ (m ≤ 2048) × (asked ≡ true → 4 * m ≤ length (now boxes)) ⌝ }
+    ensures { λ r. ⌜ r ≡ whenAsked asked (shapes m (now (boxes .entry))) ⌝ }
 {
+    if !asked {
+        return Judged::Fine;
+    }
     if all_boxes_good(m, boxes) {
         return Judged::Fine;
     }

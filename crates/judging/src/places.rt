@@ -1,12 +1,12 @@
 // Refusal 9: a bad coordinate in a row.
 ghost use mathlib.Core.Path.{_≡_};
-ghost use mathlib.Core.Bool.{_&&_};
+ghost use mathlib.Core.Bool.{true, _&&_};
 ghost use Prim.Native.Nat.{_≤_, _<_};
 ghost use lib.ListN.{length};
 ghost use Rattle.rules.specs.Judging.{isFine};
 ghost use Rattle.geometry.specs.Box.{withinB};
 ghost use Rattle.geometry.specs.Row.{number};
-ghost use Rattle.judging.specs.Order.{coordinates};
+ghost use Rattle.judging.specs.Order.{whenAsked, coordinates};
 use rules::Judged;
 use rules::LEAST_COORDINATE;
 use rules::MOST_COORDINATE;
@@ -35,11 +35,14 @@ fn all_places_good(n: usize, x: &[i32], y: &[i32]) -> bool
     good
 }
 
-// Refusal 9 of the lowest node of 1..n with a coordinate beyond the limits.
-pub fn judge_places(n: usize, x: &[i32], y: &[i32]) -> Judged
-    requires { ⌜ (n ≤ 512) × (n ≤ length (now x)) × (n ≤ length (now y)) ⌝ }
-    ensures { λ r. ⌜ r ≡ coordinates n (now (x .entry)) (now (y .entry)) ⌝ }
+// Refusal 9 of the lowest node of 1..n with a coordinate beyond the limits, where boxes are asked.
+pub fn judge_places(asked: bool, n: usize, x: &[i32], y: &[i32]) -> Judged
+    requires { ⌜ (n ≤ 512) × (asked ≡ true → (n ≤ length (now x)) × (n ≤ length (now y))) ⌝ }
+    ensures { λ r. ⌜ r ≡ whenAsked asked (coordinates n (now (x .entry)) (now (y .entry))) ⌝ }
 {
+    if !asked {
+        return Judged::Fine;
+    }
     if all_places_good(n, x, y) {
         return Judged::Fine;
     }

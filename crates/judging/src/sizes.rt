@@ -2,7 +2,7 @@
 ghost use mathlib.Core.Path.{_≡_};
 ghost use Rattle.rules.specs.Judging.{passes};
 ghost use Rattle.walks.specs.Rows.{openRows};
-ghost use Rattle.judging.specs.Order.{sizes, lengths, arcRowsLong, boxRowsLong};
+ghost use Rattle.judging.specs.Order.{sizes, lengths, arcRowsLong, boxRowsLong, maskRowsLong};
 use rules::Judged;
 use rules::Refusal;
 
@@ -47,4 +47,11 @@ pub fn box_rows_long(n: u32, m: u32, x: &[i32], y: &[i32], boxes: &[i32]) -> boo
 {
     let places = n as usize;
     (places <= x.len()) & (places <= y.len()) & (4 * (m as usize) <= boxes.len())
+}
+
+// Whether the module row has n places, and the mask row m.
+pub fn mask_rows_long(n: u32, m: u32, modules: &[u32], masks: &[u32]) -> bool
+    ensures { λ r. ⌜ r ≡ maskRowsLong n m (now (modules .entry)) (now (masks .entry)) ⌝ }
+{
+    (n as usize <= modules.len()) & (m as usize <= masks.len())
 }

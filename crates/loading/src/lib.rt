@@ -71,7 +71,7 @@ fn load_places(
     };
     let reply = dimacs::read_co(&co[..k], n, x, y);
     let CoReply::Refused(r) = reply else {
-        let answer = boxwork::build(n, m, tails, heads, weights, closures, x, y, boxes);
+        let answer = boxwork::build_boxes(n, m, tails, heads, weights, closures, x, y, boxes);
         let Judged::Refused(why) = answer else {
             return Loaded::Built(n, m);
         };

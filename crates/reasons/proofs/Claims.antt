@@ -61,7 +61,7 @@ module _
     unfolding laid network
     five h =
         let a = an-arc h in
-        answered (search-why n m R s t arc (length before) (says-known found refl .0) (a .0 .0) (a .0 .1))
+        answered (search-why n m R s t arc _ (length before) (says-known found refl .0) (a .0 .0) (a .0 .1))
         (reason on-route (record { length = d; count = known .dist .count; walk = known .dist .walk }) (true-first on-route a (on h)))
 
 pub five-exactly : FiveExactly

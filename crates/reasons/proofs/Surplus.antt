@@ -10,7 +10,7 @@ use Rattle.walks.specs.Least.{Reached}
 use Rattle.judging.specs.Cut.{cut}
 use Rattle.judging.proofs.CutLaws.{at-cut, why-judged-cut}
 use Rattle.judging.proofs.FineLaws.{why-fine}
-use Rattle.search.proofs.Alike.{Alike, other-way, reached, route, dist, no-walk-alike}
+use Rattle.walks.proofs.Alike.{Alike, other-way, reached, route, dist, no-walk-alike}
 use Rattle.search.proofs.Cut.{network-cut}
 use Rattle.reasons.specs.Using.{Uses, BestThrough}
 use Rattle.reasons.specs.Reason.{Reason, closed, cut-off, longer, tied, on-route, True, FirstTrue}

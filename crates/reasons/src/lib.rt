@@ -3,11 +3,13 @@ ghost use Rattle.walks.specs.Rows.{rows};
 ghost use Rattle.reasons.specs.Paper.{paper};
 ghost use Rattle.reasons.specs.Says.{WhySays};
 use explain::explain;
+use passing::Lamp;
+use passing::Tests;
+use passing::Toward;
 use rules::Judged;
 use rules::Refusal;
 use search::Answer;
 use search::find::find;
-use settling::Toward;
 
 mod explain;
 mod shortest;
@@ -39,8 +41,14 @@ pub fn why(
 {
     let j = judging::judge_why(n, m, tails, heads, weights, closures, s, t, arc);
     let Judged::Refused(r) = j else {
-        // of no arc is a box asked
+        // of no arc is a box or a mask asked
         let boxes = [0i32; 1];
+        let masks = [0u32; 1];
+        let tests = Tests {
+            plain: true,
+            toward: Toward::Anywhere,
+            lamp: Lamp::Any,
+        };
         let mut route = [0u32; 512];
         let a = find(
             n as usize,
@@ -49,8 +57,9 @@ pub fn why(
             heads,
             weights,
             closures,
-            Toward::Anywhere,
+            tests,
             &boxes,
+            &masks,
             s as usize,
             t as usize,
             &mut route,

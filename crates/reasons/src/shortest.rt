@@ -1,8 +1,10 @@
-// Shortest lengths, by the search without boxes.
+// Shortest lengths, by all open arcs.
 ghost use Prim.Native.Nat.{_≤_};
 ghost use Rattle.walks.specs.Rows.{rows, network, Sound};
 ghost use Rattle.reasons.specs.Steps.{IsWay};
-use settling::Toward;
+use passing::Lamp;
+use passing::Tests;
+use passing::Toward;
 use settling::run::run;
 
 // The length of a shortest walk, or that there is no walk.
@@ -25,8 +27,14 @@ pub fn shortest(
     requires { ⌜ Sound n m (rows (now tails) (now heads) (now weights) (now closures)) × (1 ≤ s) × (s ≤ n) × (1 ≤ t) × (t ≤ n) ⌝ }
     ensures { λ r. ⌜ IsWay (network m (rows (now (tails .entry)) (now (heads .entry)) (now (weights .entry)) (now (closures .entry)))) s t r ⌝ }
 {
-    // of no arc is a box asked
+    // of no arc is a box or a mask asked
     let boxes = [0i32; 1];
+    let masks = [0u32; 1];
+    let tests = Tests {
+        plain: true,
+        toward: Toward::Anywhere,
+        lamp: Lamp::Any,
+    };
     let o = run(
         s,
         t,
@@ -36,8 +44,9 @@ pub fn shortest(
         heads,
         weights,
         closures,
-        Toward::Anywhere,
+        tests,
         &boxes,
+        &masks,
     );
     let labels = o.labels;
     if !o.found {

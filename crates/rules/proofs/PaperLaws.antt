@@ -10,7 +10,7 @@ use denote.Struct.Values.{Values}
 use denote.Enum.Declared.{Choice}
 use Rattle.rules.specs.Paper.{Reply, refusal, judgedReply}
 use Rattle.rules.specs.declared.Refusal.{Refusal}
-use Rattle.rules.specs.declared.Refusal.the-variants.{TextTooLong, RowTooShort, EmptyLine, OutOfOrder, BeyondLimits, CountsDisagree, NodeAgain, BadArc, BadCoordinate, BadBox, NotInNetwork, NoWalk, BoxMisses, BadClosure, NoLetter, Misspelt, FieldCount}
+use Rattle.rules.specs.declared.Refusal.the-variants.{TextTooLong, RowTooShort, EmptyLine, OutOfOrder, BeyondLimits, CountsDisagree, NodeAgain, BadArc, BadCoordinate, BadBox, NotInNetwork, NoWalk, Misses, BadClosure, NoLetter, Misspelt, FieldCount, BadModule}
 use Rattle.rules.specs.declared.Judged.{Judged}
 use Rattle.rules.specs.declared.Judged.the-variants.{Fine, Refused}
 use Rattle.rules.proofs.Refusal.{parts, as-values, make, eta}
@@ -72,11 +72,12 @@ table-order (BadCoordinate node) = refl
 table-order (BadBox arc) = refl
 table-order NotInNetwork = refl
 table-order (NoWalk settled) = refl
-table-order (BoxMisses arc node) = refl
+table-order (Misses arc node) = refl
 table-order (BadClosure arc) = refl
 table-order (NoLetter line column) = refl
 table-order (Misspelt line column) = refl
 table-order (FieldCount line column) = refl
+table-order (BadModule node) = refl
 
 pub refusal-nonzero : (r : Refusal) → 0 ≡ refusal r .number → ⊥
 refusal-nonzero r e = let n = ap (λ (x : Reply). x .number) (table-order r) in omega (arith, from-first (sizes parts) 1 (as-values r), n)

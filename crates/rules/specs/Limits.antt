@@ -24,6 +24,10 @@ leastCoordinate = negsuc 999_999
 abbrev pub mostCoordinate : ℤ
 mostCoordinate = pos 1_000_000
 
+-- modules are numbered from 1 to 32
+abbrev pub mostModules : ℕ
+mostModules = 32
+
 -- bytes
 abbrev pub longestText : ℕ
 longestText = 65_536

@@ -4,7 +4,7 @@ use mathlib.Core.Bool.{Bool, _&&_, _||_}
 use mathlib.Core.List.{List, [], _∷_}
 use lib.Dec.{eqb, leb}
 use Rattle.rules.specs.declared.Refusal.{Refusal}
-use Rattle.rules.specs.declared.Refusal.the-variants.{TextTooLong, RowTooShort, EmptyLine, OutOfOrder, BeyondLimits, CountsDisagree, NodeAgain, BadArc, BadCoordinate, BadBox, NotInNetwork, NoWalk, BoxMisses, BadClosure, NoLetter, Misspelt, FieldCount}
+use Rattle.rules.specs.declared.Refusal.the-variants.{TextTooLong, RowTooShort, EmptyLine, OutOfOrder, BeyondLimits, CountsDisagree, NodeAgain, BadArc, BadCoordinate, BadBox, NotInNetwork, NoWalk, Misses, BadClosure, NoLetter, Misspelt, FieldCount, BadModule}
 use Rattle.rules.specs.declared.Judged.{Judged}
 use Rattle.rules.specs.declared.Judged.the-variants.{Fine, Refused}
 
@@ -27,11 +27,12 @@ refusal (BadCoordinate node) = record { number = 9; values = node ∷ [] }
 refusal (BadBox arc) = record { number = 10; values = arc ∷ [] }
 refusal NotInNetwork = record { number = 11; values = [] }
 refusal (NoWalk settled) = record { number = 12; values = settled ∷ [] }
-refusal (BoxMisses arc node) = record { number = 13; values = arc ∷ node ∷ [] }
+refusal (Misses arc node) = record { number = 13; values = arc ∷ node ∷ [] }
 refusal (BadClosure arc) = record { number = 14; values = arc ∷ [] }
 refusal (NoLetter line column) = record { number = 15; values = line ∷ column ∷ [] }
 refusal (Misspelt line column) = record { number = 16; values = line ∷ column ∷ [] }
 refusal (FieldCount line column) = record { number = 17; values = line ∷ column ∷ [] }
+refusal (BadModule node) = record { number = 18; values = node ∷ [] }
 
 abbrev pub numberOf : Refusal → ℕ
 numberOf r = refusal r .number

@@ -21,6 +21,9 @@ pub const LEAST_COORDINATE: i32 = -1000000;
 
 pub const MOST_COORDINATE: i32 = 1000000;
 
+// Modules are numbered from 1 to this.
+pub const MODULES: u32 = 32;
+
 // The longest text, in bytes.
 pub const TEXT: usize = 65536;
 
@@ -50,8 +53,8 @@ pub enum Refusal {
     NotInNetwork,
     // 12: no walk from source to target
     NoWalk { settled: u32 },
-    // 13: a box misses a node of its S(e)
-    BoxMisses { arc: u32, node: u32 },
+    // 13: a box or a mask misses a node of its arc's S(e)
+    Misses { arc: u32, node: u32 },
     // 14: an arc's closure is a byte other than 0 or 1
     BadClosure { arc: u32 },
     // 15: a line's first field is no letter that its kind of file permits
@@ -60,6 +63,14 @@ pub enum Refusal {
     Misspelt { line: u32, column: u32 },
     // 17: a field is missing, or there is one too many
     FieldCount { line: u32, column: u32 },
+    // 18: a node's module is outside 1 to 32
+    BadModule { node: u32 },
+}
+
+// Which of the lent signs a call goes by, to build, to check or to search with them: boxes, masks.
+pub struct Asked {
+    pub boxes: bool,
+    pub masks: bool,
 }
 
 // What a step that only judges answers.
@@ -125,11 +136,12 @@ impl Refusal {
             Refusal::BadBox { arc } => with(10, arc),
             Refusal::NotInNetwork => alone(11),
             Refusal::NoWalk { settled } => with(12, settled),
-            Refusal::BoxMisses { arc, node } => with_two(13, arc, node),
+            Refusal::Misses { arc, node } => with_two(13, arc, node),
             Refusal::BadClosure { arc } => with(14, arc),
             Refusal::NoLetter { line, column } => with_two(15, line, column),
             Refusal::Misspelt { line, column } => with_two(16, line, column),
             Refusal::FieldCount { line, column } => with_two(17, line, column),
+            Refusal::BadModule { node } => with(18, node),
         }
     }
 

@@ -1,32 +1,34 @@
 -- Surplus is neither read nor written: a search is the search over the rows cut to the places that it needs, and the
 -- places of the route row beyond n keep their contents.
-use Prim.Native.Nat.{ℕ, _+_, _-_, _*_, _≤_}
-use mathlib.Core.Path.{_≡_, refl, ap, _∙_}
-use mathlib.Core.Bool.{Bool, true}
+use Prim.Native.Nat.{ℕ, _+_, _-_, _≤_}
+use mathlib.Core.Path.{_≡_, refl, sym, ap, _∙_}
+use mathlib.Core.Bool.{Bool}
 use mathlib.Core.Logic.{inl, inr}
 use mathlib.Core.List.{List, _++_}
 use native.Mathlib.Omega.{arith}
-use lib.IntN.{ℤ}
 use lib.ListN.{length, take, drop}
 use lib.Seq.{take-append-add, drop-append-add, take-add, drop-at, drop-drop, length-take-le}
 use Rattle.rules.specs.Paper.{Reply}
+use Rattle.rules.specs.declared.Asked.{Asked}
 use Rattle.rules.specs.declared.Judged.{Judged}
 use Rattle.rules.specs.declared.Judged.the-variants.{Fine}
 use Rattle.walks.specs.Walk.{Net, kept}
-use Rattle.walks.specs.Rows.{Rows, laid, isOpen, network}
+use Rattle.walks.specs.Rows.{Rows, laid, network}
 use Rattle.walks.specs.Search.{Found}
 use Rattle.walks.proofs.SearchLaws.{found-unique, not-both}
 use Rattle.settling.proofs.Choice.{either}
 use Rattle.settling.specs.Run.{searchOf}
 use Rattle.settling.proofs.SearchIsRight.{search-found, search-missed}
-use Rattle.judging.specs.Cut.{cut}
-use Rattle.judging.proofs.CutLaws.{place-cut, box-cut, search-judged-cut, boxed-judged-cut}
-use Rattle.judging.proofs.FineLaws.{SearchLent, search-fine, boxed-fine}
-use Rattle.search.specs.Says.{Answers, found, none, Says, refused, answered, SearchSays, BoxedSays, holding}
+use Rattle.passing.specs.Signs.{Signs}
+use Rattle.passing.specs.Passing.{passing}
+use Rattle.passing.proofs.PassingLaws.{same-tail, same-head, same-weight, passing-in, in-passing, tested-arcs}
+use Rattle.judging.specs.Cut.{cut, cutSigns}
+use Rattle.judging.proofs.CutLaws.{at-cut, place-cut, box-cut, search-judged-cut}
+use Rattle.judging.proofs.FineLaws.{SearchLent, search-fine}
+use Rattle.search.specs.Says.{Answers, found, none, Says, refused, answered, SearchBy}
 use Rattle.search.proofs.SaysLaws.{says-unique}
-use Rattle.search.proofs.Alike.{Alike, other-way, found-alike, no-walk-alike}
-use Rattle.search.proofs.Networks.{open-arcs, held-arcs}
-use Rattle.search.proofs.Cut.{network-cut}
+use Rattle.walks.proofs.Alike.{Alike, other-way, found-alike, no-walk-alike}
+use Rattle.search.proofs.Cut.{network-cut, arc-in}
 
 -- ---- The route row
 
@@ -67,45 +69,45 @@ module _ {N F : Net} {n s t : ℕ} {before : List ℕ} where
 
 -- ---- The laws
 
-module _ (n m : ℕ) (R : Rows) (s t : ℕ) (before : List ℕ) where
-  pub search-cut : {reply : Reply} {after : List ℕ} → SearchSays n m R s t before reply after
-      → SearchSays n m (cut m R) s t (take n before) reply (take n after) × (drop n after ≡ drop n before)
-  search-cut says =
-      says-cut (search-judged-cut n m R s t before) (λ e.
-      let l = search-fine n m R s t (length before) e in
-      (network-cut m R, l .room, short (isOpen (R .closures)) before l (other-way (open-arcs m R)))) says
-
-  module _ (x y boxes : List ℤ) where
-    pub holding-cut : 1 ≤ t → t ≤ n → Alike (holding x y boxes t (network m R)) (holding (take n x) (take n y) (take (4 * m) boxes) t (network m (cut m R)))
-    unfolding laid network
-    holding-cut low high = record {
+-- the arcs that pass by cut rows are those that pass by the whole ones
+pub passing-cut : (asked : Asked) (n m : ℕ) (R : Rows) (G : Signs) (t : ℕ) → 1 ≤ t → t ≤ n
+    → Alike (passing asked G t (network m R)) (passing asked (cutSigns n m G) t (network m (cut m R)))
+passing-cut asked n m R G t low high =
+    let N = network m R in
+    let F = network m (cut m R) in
+    let H = cutSigns n m G in
+    let x = network-cut m R in
+    record {
       there = λ e a.
-          let i = a .0 .0 in
-          (network-cut m R .there e (a .0), rw (box-cut m boxes e (i .0) (i .1), place-cut n x t low high, place-cut n y t low high) (a .1));
+          let p = passing-in asked G t N e a in
+          let i = arc-in m R e (p .0) in
+          in-passing asked H t F e (x .there e (p .0)) (record {
+            box = λ h. rw (box-cut m (G .boxes) e (i .0) (i .1), place-cut n (G .x) t low high, place-cut n (G .y) t low high) (p .1 .box h);
+            mask = λ h. rw (at-cut m (G .masks) e (i .0) (i .1), at-cut n (G .modules) t low high) (p .1 .mask h);
+          });
       back = λ e a.
-          let i = a .0 .0 in
-          (network-cut m R .back e (a .0), rw (box-cut m boxes e (i .0) (i .1), place-cut n x t low high, place-cut n y t low high) at (a .1));
-      tail = λ e a. network-cut m R .tail e (a .0);
-      head = λ e a. network-cut m R .head e (a .0);
-      weight = λ e a. network-cut m R .weight e (a .0);
+          let p = passing-in asked H t F e a in
+          let i = arc-in m (cut m R) e (p .0) in
+          in-passing asked G t N e (x .back e (p .0)) (record {
+            box = λ h. rw (box-cut m (G .boxes) e (i .0) (i .1), place-cut n (G .x) t low high, place-cut n (G .y) t low high) at (p .1 .box h);
+            mask = λ h. rw (at-cut m (G .masks) e (i .0) (i .1), at-cut n (G .modules) t low high) at (p .1 .mask h);
+          });
+      tail = λ e a. same-tail G t N e (asked .boxes) (asked .masks) ∙ x .tail e (passing-in asked G t N e a .0) ∙ sym (same-tail H t F e (asked .boxes) (asked .masks));
+      head = λ e a. same-head G t N e (asked .boxes) (asked .masks) ∙ x .head e (passing-in asked G t N e a .0) ∙ sym (same-head H t F e (asked .boxes) (asked .masks));
+      weight = λ e a. same-weight G t N e (asked .boxes) (asked .masks) ∙ x .weight e (passing-in asked G t N e a .0) ∙ sym (same-weight H t F e (asked .boxes) (asked .masks));
     }
 
-    pub boxed-cut : {reply : Reply} {after : List ℕ} → BoxedSays n m R x y boxes s t before reply after
-        → BoxedSays n m (cut m R) (take n x) (take n y) (take (4 * m) boxes) s t (take n before) reply (take n after) × (drop n after ≡ drop n before)
-    boxed-cut says =
-        says-cut (boxed-judged-cut n m R x y boxes s t before) (λ e.
-        let l = boxed-fine n m R s t (length before) x y boxes e .0 in
-        (holding-cut (l .target-low) (l .target-high), l .room, short _ before l (other-way (held-arcs x y boxes t m R)))) says
+pub search-cut : (asked : Asked) (n m : ℕ) (R : Rows) (G : Signs) (s t : ℕ) (before : List ℕ) {reply : Reply} {after : List ℕ} → SearchBy asked n m R G s t before reply after
+    → SearchBy asked n m (cut m R) (cutSigns n m G) s t (take n before) reply (take n after) × (drop n after ≡ drop n before)
+search-cut asked n m R G s t before says =
+    says-cut (search-judged-cut n m R asked G s t before) (λ e.
+    let f = search-fine asked n m R G s t (length before) e in
+    let l = f .0 in
+    (passing-cut asked n m R G t (l .target-low) (l .target-high), l .room, short _ before l (other-way (tested-arcs asked G t m R (λ h. f .1 .lent .modules h .numbers t (l .target-low) (l .target-high) .0))))) says
 
 -- two calls whose rows agree on the places that are needed have the same reply and write the same
-module _
-    (n m : ℕ) (R R′ : Rows) (rows : cut m R ≡ cut m R′) (before before′ : List ℕ) (route : take n before ≡ take n before′)
-    (s t : ℕ) {reply reply′ : Reply} {after after′ : List ℕ}
-  where
-    pub search-surplus : SearchSays n m R s t before reply after → SearchSays n m R′ s t before′ reply′ after′ → (reply ≡ reply′) × (take n after ≡ take n after′)
-    search-surplus p q = says-unique (rw (rows, route) at (search-cut n m R s t before p .0)) (search-cut n m R′ s t before′ q .0)
-
-    pub boxed-surplus : (x x′ y y′ boxes boxes′ : List ℤ) → take n x ≡ take n x′ → take n y ≡ take n y′ → take (4 * m) boxes ≡ take (4 * m) boxes′
-        → BoxedSays n m R x y boxes s t before reply after → BoxedSays n m R′ x′ y′ boxes′ s t before′ reply′ after′ → (reply ≡ reply′) × (take n after ≡ take n after′)
-    boxed-surplus x x′ y y′ boxes boxes′ ex ey eb p q =
-        says-unique (rw (rows, ex, ey, eb, route) at (boxed-cut n m R s t before x y boxes p .0)) (boxed-cut n m R′ s t before′ x′ y′ boxes′ q .0)
+pub search-surplus : (asked : Asked) (n m : ℕ) (R R′ : Rows) (G G′ : Signs) (s t : ℕ) (before before′ : List ℕ) {reply reply′ : Reply} {after after′ : List ℕ}
+    → cut m R ≡ cut m R′ → cutSigns n m G ≡ cutSigns n m G′ → take n before ≡ take n before′
+    → SearchBy asked n m R G s t before reply after → SearchBy asked n m R′ G′ s t before′ reply′ after′ → (reply ≡ reply′) × (take n after ≡ take n after′)
+search-surplus asked n m R R′ G G′ s t before before′ rows signs route p q =
+    says-unique (rw (rows, signs, route) at (search-cut asked n m R G s t before p .0)) (search-cut asked n m R′ G′ s t before′ q .0)

@@ -9,12 +9,13 @@ use Rattle.rules.specs.declared.Judged.{Judged}
 use Rattle.rules.specs.declared.Judged.the-variants.{Fine, Refused}
 use Rattle.rules.specs.declared.Refusal.{Refusal}
 use Rattle.rules.specs.declared.Refusal.the-variants as refusals
-use Rattle.geometry.specs.Box.{Holds}
-use Rattle.geometry.specs.Row.{boxOf, coordinate}
-use Rattle.walks.specs.Walk.{Net, only}
+use Rattle.rules.specs.declared.Asked.{Asked}
+use Rattle.walks.specs.Walk.{Net}
 use Rattle.walks.specs.Rows.{Rows, network}
 use Rattle.walks.specs.Search.{Found, NoWalk}
-use Rattle.judging.specs.Order.{searchJudged, boxedJudged}
+use Rattle.passing.specs.Signs.{Signs, nothing, boxesAlone, noSigns, boxSigns}
+use Rattle.passing.specs.Passing.{passing}
+use Rattle.judging.specs.Order.{searchJudged}
 
 -- The answer for a network of n nodes. Found: the length d, the arc count k and the settled count c, and the route's arcs,
 -- source first, in the row's first places; the places after it keep their contents. Else 12 with the settled count.
@@ -28,15 +29,15 @@ pub data Says (judged : Judged) (N : Net) (n s t : ℕ) (before : List ℕ) : Re
   refused : {r : Refusal} → judged ≡ Refused r → Says judged N n s t before (refusal r) before
   answered : {reply : Reply} {after : List ℕ} → judged ≡ Fine → Answers N n s t before reply after → Says judged N n s t before reply after
 
+-- a search from s to t by the arcs that pass the tests asked
+abbrev pub SearchBy : Asked → ℕ → ℕ → Rows → Signs → ℕ → ℕ → List ℕ → Reply → List ℕ → Type 0
+SearchBy asked n m R G s t before reply after =
+    Says (searchJudged asked n m R G s t (length before)) (passing asked G t (network m R)) n s t before reply after
+
 -- the search without boxes: all arcs
 abbrev pub SearchSays : ℕ → ℕ → Rows → ℕ → ℕ → List ℕ → Reply → List ℕ → Type 0
-SearchSays n m R s t before reply after = Says (searchJudged n m R s t (length before)) (network m R) n s t before reply after
+SearchSays n m R s t before reply after = SearchBy nothing n m R noSigns s t before reply after
 
--- the network of only those arcs whose box holds t
-abbrev pub holding : List ℤ → List ℤ → List ℤ → ℕ → Net → Net
-holding x y boxes t N = only (λ e. Holds (boxOf boxes e) (coordinate x t) (coordinate y t)) N
-
--- the search with boxes
+-- the search with boxes: only those arcs whose box holds t
 abbrev pub BoxedSays : ℕ → ℕ → Rows → List ℤ → List ℤ → List ℤ → ℕ → ℕ → List ℕ → Reply → List ℕ → Type 0
-BoxedSays n m R x y boxes s t before reply after =
-    Says (boxedJudged n m R x y boxes s t (length before)) (holding x y boxes t (network m R)) n s t before reply after
+BoxedSays n m R x y boxes s t before reply after = SearchBy boxesAlone n m R (boxSigns x y boxes) s t before reply after

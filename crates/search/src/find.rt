@@ -3,12 +3,12 @@ ghost use Prim.Native.Nat.{_≤_};
 ghost use lib.ListN.{length};
 ghost use Rattle.walks.specs.Walk.{kept};
 ghost use Rattle.walks.specs.Rows.{rows, Sound, laid};
-ghost use Rattle.settling.specs.Toward.{Room, keeps};
+ghost use Rattle.passing.specs.Asking.{Room, keeps};
 ghost use Rattle.search.specs.Paper.{paper};
 ghost use Rattle.search.specs.Says.{Answers};
 use crate::Answer;
+use passing::Tests;
 use rules::Refusal;
-use settling::Toward;
 use settling::run::run;
 use settling::trace::trace;
 
@@ -20,16 +20,29 @@ pub fn find(
     heads: &[u32],
     weights: &[u32],
     closures: &[u8],
-    toward: Toward,
+    tests: Tests,
     boxes: &[i32],
+    masks: &[u32],
     s: usize,
     t: usize,
     route: &mut [u32],
 ) -> Answer
-    requires { ⌜ Sound n m (rows (now tails) (now heads) (now weights) (now closures)) × Room toward m (now boxes) × (1 ≤ s) × (s ≤ n) × (1 ≤ t) × (t ≤ n) × (n ≤ length (now route)) ⌝ }
-    ensures { λ r. ⌜ Answers (kept (keeps toward (now (closures .entry)) (now (boxes .entry))) (laid m (rows (now (tails .entry)) (now (heads .entry)) (now (weights .entry)) (now (closures .entry))))) n s t (now (route .entry)) (paper r) (now (route .exit)) ⌝ }
+    requires { ⌜ Sound n m (rows (now tails) (now heads) (now weights) (now closures)) × Room tests m (now boxes) (now masks) × (1 ≤ s) × (s ≤ n) × (1 ≤ t) × (t ≤ n) × (n ≤ length (now route)) ⌝ }
+    ensures { λ r. ⌜ Answers (kept (keeps tests (now (closures .entry)) (now (boxes .entry)) (now (masks .entry))) (laid m (rows (now (tails .entry)) (now (heads .entry)) (now (weights .entry)) (now (closures .entry))))) n s t (now (route .entry)) (paper r) (now (route .exit)) ⌝ }
 {
-    let o = run(s, t, n, m, tails, heads, weights, closures, toward, boxes);
+    let o = run(
+        s,
+        t,
+        n,
+        m,
+        tails,
+        heads,
+        weights,
+        closures,
+        tests,
+        boxes,
+        masks,
+    );
     let labels = o.labels;
     let found = o.found;
     let settled = o.count as u32;
@@ -44,8 +57,9 @@ pub fn find(
         heads,
         weights,
         closures,
-        toward,
+        tests,
         boxes,
+        masks,
         route,
     );
     Answer::Found {

@@ -1,10 +1,12 @@
-// Route searches over rows as they are lent, with and without boxes.
+// The route search over rows as they are lent, by what is asked of each arc.
 ghost use Rattle.walks.specs.Rows.{rows};
 ghost use Rattle.search.specs.Paper.{paper};
-ghost use Rattle.search.specs.Says.{SearchSays, BoxedSays};
+ghost use Rattle.passing.specs.Signs.{signs};
+ghost use Rattle.search.specs.Says.{SearchBy};
+use passing::tests_toward;
+use rules::Asked;
 use rules::Judged;
 use rules::Refusal;
-use settling::Toward;
 
 pub mod find;
 
@@ -18,43 +20,10 @@ pub enum Answer {
     Refused(Refusal),
 }
 
-// The search without boxes, from `s` to `t`, by all arcs. The route's arc numbers go into `route`, source first.
+// The search from `s` to `t` by the open arcs that pass the tests asked: boxes that hold `t`, masks that have the module of `t`.
+// With none asked, by all open arcs. The route's arc numbers go into `route`, source first.
 pub fn search(
-    n: u32,
-    m: u32,
-    tails: &[u32],
-    heads: &[u32],
-    weights: &[u32],
-    closures: &[u8],
-    s: u32,
-    t: u32,
-    route: &mut [u32],
-) -> Answer
-    ensures { λ r. ⌜ SearchSays n m (rows (now (tails .entry)) (now (heads .entry)) (now (weights .entry)) (now (closures .entry))) s t (now (route .entry)) (paper r) (now (route .exit)) ⌝ }
-{
-    let j = judging::judge_search(n, m, tails, heads, weights, closures, s, t, route.len());
-    let Judged::Refused(r) = j else {
-        // of no arc is a box asked
-        let boxes = [0i32; 1];
-        return find::find(
-            n as usize,
-            m as usize,
-            tails,
-            heads,
-            weights,
-            closures,
-            Toward::Anywhere,
-            &boxes,
-            s as usize,
-            t as usize,
-            route,
-        );
-    };
-    Answer::Refused(r)
-}
-
-// The search with boxes, from `s` to `t`, by only those arcs whose box holds `t`.
-pub fn search_boxed(
+    asked: Asked,
     n: u32,
     m: u32,
     tails: &[u32],
@@ -64,13 +33,16 @@ pub fn search_boxed(
     x: &[i32],
     y: &[i32],
     boxes: &[i32],
+    modules: &[u32],
+    masks: &[u32],
     s: u32,
     t: u32,
     route: &mut [u32],
 ) -> Answer
-    ensures { λ r. ⌜ BoxedSays n m (rows (now (tails .entry)) (now (heads .entry)) (now (weights .entry)) (now (closures .entry))) (now (x .entry)) (now (y .entry)) (now (boxes .entry)) s t (now (route .entry)) (paper r) (now (route .exit)) ⌝ }
+    ensures { λ r. ⌜ SearchBy asked n m (rows (now (tails .entry)) (now (heads .entry)) (now (weights .entry)) (now (closures .entry))) (signs (now (x .entry)) (now (y .entry)) (now (boxes .entry)) (now (modules .entry)) (now (masks .entry))) s t (now (route .entry)) (paper r) (now (route .exit)) ⌝ }
 {
-    let j = judging::judge_boxed(
+    let j = judging::judge_search(
+        asked,
         n,
         m,
         tails,
@@ -80,12 +52,14 @@ pub fn search_boxed(
         x,
         y,
         boxes,
+        modules,
+        masks,
         s,
         t,
         route.len(),
     );
     let Judged::Refused(r) = j else {
-        let at = t as usize - 1;
+        let tests = tests_toward(asked, x, y, modules, t as usize);
         return find::find(
             n as usize,
             m as usize,
@@ -93,8 +67,9 @@ pub fn search_boxed(
             heads,
             weights,
             closures,
-            Toward::Place(x[at], y[at]),
+            tests,
             boxes,
+            masks,
             s as usize,
             t as usize,
             route,

@@ -20,7 +20,8 @@ use Rattle.settling.specs.Labels.{arcsOf, startOf}
 use Rattle.settling.specs.Settle.{settleOf}
 use Rattle.settling.specs.Nearest.{nearestOf}
 use Rattle.settling.specs.Seen.{seen}
-use Rattle.settling.specs.Toward.{keeps, Posed}
+use Rattle.passing.specs.Asking.{keeps}
+use Rattle.settling.specs.Posed.{Posed}
 use Rattle.settling.specs.Stage.{Ready}
 use Rattle.settling.specs.Front.{Become}
 use Rattle.settling.specs.Step.{outcomeOf, Stands, Strode}
@@ -31,8 +32,8 @@ use Rattle.settling.proofs.RunEnds.{ready, stage-start, stage-on}
 use Rattle.settling.proofs.TreeFollows.{front-start}
 use Rattle.settling.proofs.LeastKeyIsNearest.{pick-nearest}
 
-pub stands-start : {R : Rows} {boxes : List ℤ} {a : Task} → Posed a R boxes → {tree : List ℕ} (x : ℕ) → Rekeyed (replicate 1_024 far) (a .s - 1) x tree
-    → x ≡ keyOf 0 0 (a .s - 1) → {L : Labels} → L ≡ startOf (a .s) → Stands R boxes a 0 L tree
+pub stands-start : {R : Rows} {boxes : List ℤ} {masks : List ℕ} {a : Task} → Posed a R boxes masks → {tree : List ℕ} (x : ℕ) → Rekeyed (replicate 1_024 far) (a .s - 1) x tree
+    → x ≡ keyOf 0 0 (a .s - 1) → {L : Labels} → L ≡ startOf (a .s) → Stands R boxes masks a 0 L tree
 stands-start {a = a} posed x r e q =
     let low = posed .source-low in
     let stage = stage-start (posed .sound) low (posed .source-high) in
@@ -45,7 +46,7 @@ stands-start {a = a} posed x r e q =
     })
 
 -- the tree tells the next node
-module _ {R : Rows} {boxes : List ℤ} {a : Task} {count : ℕ} {L : Labels} {tree : List ℕ} (here : Stands R boxes a count L tree) {p : Pick} (told : p ≡ pickOf (getD tree 1 0)) where
+module _ {R : Rows} {boxes : List ℤ} {masks : List ℕ} {a : Task} {count : ℕ} {L : Labels} {tree : List ℕ} (here : Stands R boxes masks a count L tree) {p : Pick} (told : p ≡ pickOf (getD tree 1 0)) where
   few : (v : ℕ) → seen (a .n) L .Labelled v → arcsOf L v ≤ 512
   unfolding seen
   few v known = omega (arith, here .stage .progress .few v known, here .high, here .posed .sound .nodes-high)
@@ -54,7 +55,7 @@ module _ {R : Rows} {boxes : List ℤ} {a : Task} {count : ℕ} {L : Labels} {tr
   picked = sym (told ∙ pick-nearest (here .posed .sound .nodes-high) (here .front) (here .stage .full) few)
 
   -- none is left, and the run is over
-  pub stands-stuck : p ≡ Nothing → record { labels = L; count = count; found = false } ≡ outcomeOf R boxes a
+  pub stands-stuck : p ≡ Nothing → record { labels = L; count = count; found = false } ≡ outcomeOf R boxes masks a
   stands-stuck e = elim (decLt count (a .n)) [
     | yes h ↦ let f = a .n - (count + 1) in sym (run-stuck _ _ _ _ _ count L f (picked ∙ e)) ∙ here .rest (f + 1) (omega arith)
     | no h ↦ sym (run-over _ _ _ _ _ count L) ∙ here .rest 0 (omega (arith, here .high))
@@ -68,14 +69,14 @@ module _ {R : Rows} {boxes : List ℤ} {a : Task} {count : ℕ} {L : Labels} {tr
     stands-below = let next = nearest-next (a .n) L (picked ∙ node) in count-room u (stands-ready .low) (stands-ready .high) (next .unsettled) (here .stage .progress .count)
 
     -- the next is the target, and the run is over
-    pub stands-found : u ≡ a .t → record { labels = L; count = count + 1; found = true } ≡ outcomeOf R boxes a
+    pub stands-found : u ≡ a .t → record { labels = L; count = count + 1; found = true } ≡ outcomeOf R boxes masks a
     stands-found q =
         let h = stands-below in
         let f = a .n - (count + 1) in
         sym (run-found _ _ _ _ _ count L f u (picked ∙ node) q) ∙ here .rest (f + 1) (omega arith)
 
     -- the next is another node, which is settled
-    pub stands-on : (u ≡ a .t → ⊥) → {L′ : Labels} {tree′ : List ℕ} → Become (settleOf R (keeps (a .toward) (R .closures) boxes) (a .m) L u) L′ tree′ → Stands R boxes a (count + 1) L′ tree′
+    pub stands-on : (u ≡ a .t → ⊥) → {L′ : Labels} {tree′ : List ℕ} → Become (settleOf R (keeps (a .tests) (R .closures) boxes masks) (a .m) L u) L′ tree′ → Stands R boxes masks a (count + 1) L′ tree′
     stands-on q b = record {
       posed = here .posed;
       high = omega (arith, stands-below);
@@ -87,25 +88,25 @@ module _ {R : Rows} {boxes : List ℤ} {a : Task} {count : ℕ} {L : Labels} {tr
 
 -- ---- How a step ends
 
-module _ {R : Rows} {boxes : List ℤ} {a : Task} (end : ℕ) (tree : List ℕ) (L : Labels) (count : ℕ) where
-  pub strode-over : (found : Bool) → record { labels = L; count = count; found = found } ≡ outcomeOf R boxes a
-      → Strode R boxes a end (record { labels = L; count = count; found = found; over = true }) tree
+module _ {R : Rows} {boxes : List ℤ} {masks : List ℕ} {a : Task} (end : ℕ) (tree : List ℕ) (L : Labels) (count : ℕ) where
+  pub strode-over : (found : Bool) → record { labels = L; count = count; found = found } ≡ outcomeOf R boxes masks a
+      → Strode R boxes masks a end (record { labels = L; count = count; found = found; over = true }) tree
   strode-over found h = record { over = λ e. h; count = λ e. absurd (true≢false e); stands = λ e. absurd (true≢false e) }
 
-  pub strode-on : count ≡ end → Stands R boxes a count L tree → Strode R boxes a end (record { labels = L; count = count; found = false; over = false }) tree
+  pub strode-on : count ≡ end → Stands R boxes masks a count L tree → Strode R boxes masks a end (record { labels = L; count = count; found = false; over = false }) tree
   strode-on e here = record { over = λ z. absurd (false≢true z); count = λ z. e; stands = λ z. here }
 
 -- ---- Step after step
 
-pub strode-here : {R : Rows} {boxes : List ℤ} {a : Task} {end : ℕ} {r : Stride} {tree : List ℕ} → Strode R boxes a end r tree → Strode R boxes a (r .count) r tree
+pub strode-here : {R : Rows} {boxes : List ℤ} {masks : List ℕ} {a : Task} {end : ℕ} {r : Stride} {tree : List ℕ} → Strode R boxes masks a end r tree → Strode R boxes masks a (r .count) r tree
 strode-here h = record { over = h .over; count = λ e. refl; stands = h .stands }
 
 -- more than the nodes that are left, and none after the end
 abbrev pub leftOf : ℕ → Stride → ℕ
 leftOf n r = cond (r .over) 0 (n + 1 - r .count)
 
-pub strode-less : {R : Rows} {boxes : List ℤ} {a : Task} {r r′ : Stride} {tree tree′ : List ℕ} (rounds : ℕ) → 1 ≤ rounds → r .over ≡ false
-    → Strode R boxes a (r .count) r tree → Strode R boxes a (r .count + rounds) r′ tree′ → leftOf (a .n) r′ < leftOf (a .n) r
+pub strode-less : {R : Rows} {boxes : List ℤ} {masks : List ℕ} {a : Task} {r r′ : Stride} {tree tree′ : List ℕ} (rounds : ℕ) → 1 ≤ rounds → r .over ≡ false
+    → Strode R boxes masks a (r .count) r tree → Strode R boxes masks a (r .count + rounds) r′ tree′ → leftOf (a .n) r′ < leftOf (a .n) r
 strode-less {r′ = r′} rounds some e old h = elim (either (r′ .over)) [
   | inl o ↦ rw (e, o) (omega (arith, old .stands e .high))
   | inr o ↦ rw (e, o) (omega (arith, h .count o, h .stands o .high))

@@ -1,15 +1,9 @@
--- What is lent serves more nodes, and fewer arcs, and its arcs can be linked by either end.
+-- What is lent serves more nodes, and its arcs can be linked by either end.
 use Prim.Native.Nat.{ℕ, _≤_}
 use native.Mathlib.Omega.{arith}
-use mathlib.Core.List.{List}
-use lib.IntN.{ℤ}
 use Rattle.frontier.specs.Chain.{Ends}
-use Rattle.geometry.proofs.RowLaws.{shaped-fewer}
 use Rattle.walks.specs.Rows.{Rows, Sound}
 use Rattle.walks.proofs.RowsLaws.{arc-at, turned-sound}
-use Rattle.settling.specs.declared.Toward.{Toward}
-use Rattle.settling.specs.declared.Toward.the-variants.{Anywhere, Place}
-use Rattle.settling.specs.Toward.{Room}
 
 -- rows of a network of n nodes are rows of one of 512 nodes, as many as the label arrays have places
 pub widened : {n m : ℕ} {R : Rows} → Sound n m R → Sound 512 m R
@@ -36,8 +30,3 @@ tails-ends s = record {
 
 pub heads-ends : {n m : ℕ} {R : Rows} → Sound n m R → Ends m (R .heads)
 heads-ends s = tails-ends (turned-sound s)
-
--- a row that serves m arcs serves each of them
-pub room-less : (toward : Toward) (boxes : List ℤ) (m e : ℕ) → e ≤ m → Room toward m boxes → Room toward e boxes
-room-less Anywhere boxes m e h r = tt
-room-less (Place x y) boxes m e h r = shaped-fewer h r

@@ -1,8 +1,5 @@
 // The search by labels: label arrays, the settling step, the run, and the route traced back.
-ghost use mathlib.Core.Path.{_≡_};
-ghost use Prim.Native.Nat.{_≤_};
-ghost use lib.ListN.{length};
-ghost use Rattle.settling.specs.Toward.{Room, keeps};
+use passing::Tests;
 
 mod label;
 mod relax;
@@ -38,31 +35,11 @@ pub enum Into {
     Nothing,
 }
 
-// Which open arcs a search may use: all, or only those whose box holds a place.
-pub enum Toward {
-    Anywhere,
-    Place(i32, i32),
-}
-
-// What a run is asked: from node s to node t, in a network of n nodes and m arcs, by the arcs that may be used.
+// What a run is asked: from node s to node t, in a network of n nodes and m arcs, by the open arcs that pass the tests.
 pub struct Task {
     pub s: usize,
     pub t: usize,
     pub n: usize,
     pub m: usize,
-    pub toward: Toward,
-}
-
-// Whether a search may use arc `e`.
-fn passes(toward: Toward, closures: &[u8], boxes: &[i32], e: usize) -> bool
-    requires { ⌜ (1 ≤ e) × (e ≤ length (now closures)) × Room toward e (now boxes) ⌝ }
-    ensures { λ r. ⌜ r ≡ keeps toward (now (closures .entry)) (now (boxes .entry)) e ⌝ }
-{
-    if closures[e - 1] != 0 {
-        return false;
-    }
-    match toward {
-        Toward::Anywhere => true,
-        Toward::Place(x, y) => geometry::holds(boxes, e, x, y),
-    }
+    pub tests: Tests,
 }

@@ -4,19 +4,22 @@ ghost use Prim.Native.Nat.{_≤_};
 ghost use Rattle.frontier.specs.Chain.{Chained};
 ghost use Rattle.walks.specs.Rows.{rows, isOpen, Sound};
 ghost use Rattle.settling.specs.Run.{searchOf, labelsOf};
-ghost use Rattle.settling.specs.Toward.{Room, Posed, keeps};
+ghost use Rattle.passing.specs.Asking.{Room, keeps};
+ghost use Rattle.settling.specs.Posed.{Posed};
 ghost use Rattle.settling.specs.Step.{outcomeOf};
 use crate::Labels;
 use crate::Outcome;
 use crate::Stride;
 use crate::Task;
-use crate::Toward;
 use crate::label::start;
 use crate::settle::settle;
 use frontier::chain::link;
 use frontier::tree::FAR;
 use frontier::tree::key;
 use frontier::tree::put;
+use passing::Lamp;
+use passing::Tests;
+use passing::Toward;
 
 // How many nodes a search settles in a step: the labels are copied for each.
 const STEP: usize = 16;
@@ -32,12 +35,13 @@ fn run_by(
     first: &[u32; 512],
     next: &[u32; 2048],
     boxes: &[i32],
+    masks: &[u32],
 ) -> Outcome
     requires { let R = rows (now tails) (now heads) (now weights) (now closures) in
-        ⌜ (1 ≤ rounds) × (rounds ≤ 513) × Posed task R (now boxes) × Chained (task .m) (now tails) (now first) (now next) ⌝ }
+        ⌜ (1 ≤ rounds) × (rounds ≤ 513) × Posed task R (now boxes) (now masks) × Chained (task .m) (now tails) (now first) (now next) ⌝ }
     ensures { λ r.
         let R = rows (now (tails .entry)) (now (heads .entry)) (now (weights .entry)) (now (closures .entry)) in
-        ⌜ r ≡ outcomeOf R (now (boxes .entry)) task ⌝ }
+        ⌜ r ≡ outcomeOf R (now (boxes .entry)) (now (masks .entry)) task ⌝ }
 {
     let mut tree = [FAR; 1024];
     put(&mut tree, task.s - 1, key(0, 0, task.s - 1));
@@ -61,6 +65,7 @@ fn run_by(
             first,
             next,
             boxes,
+            masks,
         );
     }
     let labels = r.labels;
@@ -84,13 +89,14 @@ pub fn run_along(
     closures: &[u8],
     first: &[u32; 512],
     next: &[u32; 2048],
-    toward: Toward,
+    tests: Tests,
     boxes: &[i32],
+    masks: &[u32],
 ) -> Outcome
-    requires { ⌜ (1 ≤ s) × (s ≤ n) × Sound n m (rows (now tails) (now heads) (now weights) (now closures)) × Chained m (now tails) (now first) (now next) × Room toward m (now boxes) ⌝ }
-    ensures { λ r. ⌜ r ≡ searchOf (rows (now (tails .entry)) (now (heads .entry)) (now (weights .entry)) (now (closures .entry))) (keeps toward (now (closures .entry)) (now (boxes .entry))) n m t s ⌝ }
+    requires { ⌜ (1 ≤ s) × (s ≤ n) × Sound n m (rows (now tails) (now heads) (now weights) (now closures)) × Chained m (now tails) (now first) (now next) × Room tests m (now boxes) (now masks) ⌝ }
+    ensures { λ r. ⌜ r ≡ searchOf (rows (now (tails .entry)) (now (heads .entry)) (now (weights .entry)) (now (closures .entry))) (keeps tests (now (closures .entry)) (now (boxes .entry)) (now (masks .entry))) n m t s ⌝ }
 {
-    let task = Task { s, t, n, m, toward };
+    let task = Task { s, t, n, m, tests };
     run_by(
         STEP,
         task,
@@ -101,6 +107,7 @@ pub fn run_along(
         first,
         next,
         boxes,
+        masks,
     )
 }
 
@@ -114,11 +121,12 @@ pub fn run(
     heads: &[u32],
     weights: &[u32],
     closures: &[u8],
-    toward: Toward,
+    tests: Tests,
     boxes: &[i32],
+    masks: &[u32],
 ) -> Outcome
-    requires { ⌜ (1 ≤ s) × (s ≤ n) × Sound n m (rows (now tails) (now heads) (now weights) (now closures)) × Room toward m (now boxes) ⌝ }
-    ensures { λ r. ⌜ r ≡ searchOf (rows (now (tails .entry)) (now (heads .entry)) (now (weights .entry)) (now (closures .entry))) (keeps toward (now (closures .entry)) (now (boxes .entry))) n m t s ⌝ }
+    requires { ⌜ (1 ≤ s) × (s ≤ n) × Sound n m (rows (now tails) (now heads) (now weights) (now closures)) × Room tests m (now boxes) (now masks) ⌝ }
+    ensures { λ r. ⌜ r ≡ searchOf (rows (now (tails .entry)) (now (heads .entry)) (now (weights .entry)) (now (closures .entry))) (keeps tests (now (closures .entry)) (now (boxes .entry)) (now (masks .entry))) n m t s ⌝ }
 {
     let mut first = [m as u32; 512];
     let mut next = [0u32; 2048];
@@ -134,8 +142,9 @@ pub fn run(
         closures,
         &first,
         &next,
-        toward,
+        tests,
         boxes,
+        masks,
     )
 }
 
@@ -155,14 +164,20 @@ pub fn label_all(
     requires { ⌜ (1 ≤ s) × (s ≤ n) × Sound n m (rows (now tails) (now heads) (now weights) (now closures)) × Chained m (now tails) (now first) (now next) ⌝ }
     ensures { λ r. ⌜ r ≡ labelsOf (rows (now (tails .entry)) (now (heads .entry)) (now (weights .entry)) (now (closures .entry))) (isOpen (now (closures .entry))) n m s ⌝ }
 {
-    // of no arc is a box asked
+    // of no arc is a box or a mask asked
     let boxes = [0i32; 1];
+    let masks = [0u32; 1];
+    let tests = Tests {
+        plain: true,
+        toward: Toward::Anywhere,
+        lamp: Lamp::Any,
+    };
     let task = Task {
         s,
         t: 0,
         n,
         m,
-        toward: Toward::Anywhere,
+        tests,
     };
     let o = run_by(
         n + 1,
@@ -174,6 +189,7 @@ pub fn label_all(
         first,
         next,
         &boxes,
+        &masks,
     );
     o.labels
 }

@@ -25,12 +25,13 @@ pub fn settle(
     first: &[u32; 512],
     next: &[u32; 2048],
     boxes: &[i32],
+    masks: &[u32],
 ) -> Stride
     requires { let R = rows (now tails) (now heads) (now weights) (now closures) in
-        ⌜ Stands R (now boxes) task count labels (now tree) × Chained (task .m) (now tails) (now first) (now next) × (rounds ≤ 513) ⌝ }
+        ⌜ Stands R (now boxes) (now masks) task count labels (now tree) × Chained (task .m) (now tails) (now first) (now next) × (rounds ≤ 513) ⌝ }
     ensures { λ r.
         let R = rows (now (tails .entry)) (now (heads .entry)) (now (weights .entry)) (now (closures .entry)) in
-        ⌜ Strode R (now (boxes .entry)) task (count + rounds) r (now (tree .exit)) ⌝ }
+        ⌜ Strode R (now (boxes .entry)) (now (masks .entry)) task (count + rounds) r (now (tree .exit)) ⌝ }
 {
     let mut length = labels.length;
     let mut arcs = labels.arcs;
@@ -77,6 +78,7 @@ pub fn settle(
             first,
             next,
             boxes,
+            masks,
         );
         done += 1;
         left -= 1;

@@ -7,11 +7,12 @@ ghost use mathlib.Core.List.{[]};
 ghost use Rattle.frontier.specs.Chain.{Chained};
 ghost use Rattle.settling.specs.Labels.{labels, arcsOf};
 ghost use Rattle.settling.specs.Trace.{fits, intoOf, traceOf};
-ghost use Rattle.settling.specs.Toward.{Room, keeps};
+ghost use Rattle.passing.specs.Asking.{Room, keeps};
 use crate::Into;
 use crate::Labels;
-use crate::Toward;
 use frontier::chain::link;
+use passing::Tests;
+use passing::passes;
 
 // Whether a step of weight w leads from the label (l, k) to (l2, k2).
 fn leads(l: u32, k: u32, w: u32, l2: u32, k2: u32) -> bool
@@ -35,21 +36,22 @@ fn arc_into(
     closures: &[u8],
     first: &[u32; 512],
     next: &[u32; 2048],
-    toward: Toward,
+    tests: Tests,
     boxes: &[i32],
+    masks: &[u32],
 ) -> Into
     requires { let R = rows (now tails) (now heads) (now weights) (now closures) in
-        ⌜ (1 ≤ v) × (v ≤ 512) × Sound 512 m R × Room toward m (now boxes) × Chained m (now heads) (now first) (now next) ⌝ }
+        ⌜ (1 ≤ v) × (v ≤ 512) × Sound 512 m R × Room tests m (now boxes) (now masks) × Chained m (now heads) (now first) (now next) ⌝ }
     ensures { λ r.
         let R = rows (now (tails .entry)) (now (heads .entry)) (now (weights .entry)) (now (closures .entry)) in
         let L = labels (now (length .entry)) (now (arcs .entry)) [] in
-        ⌜ r ≡ intoOf R (keeps toward (now (closures .entry)) (now (boxes .entry))) L v m ⌝ }
+        ⌜ r ≡ intoOf R (keeps tests (now (closures .entry)) (now (boxes .entry)) (now (masks .entry))) L v m ⌝ }
 {
     let l = length[v - 1];
     let k = arcs[v - 1];
     let mut j = first[v - 1] as usize;
     while j < m {
-        if crate::passes(toward, closures, boxes, j + 1) {
+        if passes(tests, closures, boxes, masks, j + 1) {
             let u = tails[j] as usize - 1;
             let from_l = length[u];
             let from_k = arcs[u];
@@ -71,12 +73,13 @@ pub fn trace(
     heads: &[u32],
     weights: &[u32],
     closures: &[u8],
-    toward: Toward,
+    tests: Tests,
     boxes: &[i32],
+    masks: &[u32],
     route: &mut [u32],
 )
-    requires { ⌜ (1 ≤ t) × (t ≤ 512) × Sound 512 m (rows (now tails) (now heads) (now weights) (now closures)) × Room toward m (now boxes) × (arcsOf labels t ≤ length (now route)) ⌝ }
-    ensures { λ _. ⌜ now (route .exit) ≡ traceOf (rows (now (tails .entry)) (now (heads .entry)) (now (weights .entry)) (now (closures .entry))) (keeps toward (now (closures .entry)) (now (boxes .entry))) m labels (arcsOf labels t) t (now (route .entry)) ⌝ }
+    requires { ⌜ (1 ≤ t) × (t ≤ 512) × Sound 512 m (rows (now tails) (now heads) (now weights) (now closures)) × Room tests m (now boxes) (now masks) × (arcsOf labels t ≤ length (now route)) ⌝ }
+    ensures { λ _. ⌜ now (route .exit) ≡ traceOf (rows (now (tails .entry)) (now (heads .entry)) (now (weights .entry)) (now (closures .entry))) (keeps tests (now (closures .entry)) (now (boxes .entry)) (now (masks .entry))) m labels (arcsOf labels t) t (now (route .entry)) ⌝ }
 {
     let mut first = [m as u32; 512];
     let mut next = [0u32; 2048];
@@ -98,8 +101,9 @@ pub fn trace(
             closures,
             &first,
             &next,
-            toward,
+            tests,
             boxes,
+            masks,
         );
         let Into::Arc(e) = into else {
             return;

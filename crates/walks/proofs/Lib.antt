@@ -16,3 +16,4 @@ pub mod Relaxing
 pub mod Scanning
 pub mod Tracing
 pub mod Limits
+pub mod Alike

@@ -50,6 +50,7 @@ patterns =
     ∷ "line #, column #: no line of this kind of file begins so"
     ∷ "line #, column #: the field is misspelt"
     ∷ "line #, column #: a field is missing or one too many"
+    ∷ "the module of node # is outside 1 to 32"
     ∷ []
 
 -- the line that a refusal is told by, from its number and its first value

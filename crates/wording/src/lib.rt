@@ -49,7 +49,7 @@ pub fn put_place(page: &mut [u8; PAGE], at: usize, why: Refusal) -> usize
 }
 
 // The refusals in words, in the order of their numbers; `#` stands for a value. Line 0 is for 5 outside a text.
-const PATTERNS: [u8; 689] = *b"\
+const PATTERNS: [u8; 729] = *b"\
     n, m or the new weight is beyond its limits\n\
     the text is over 65536 bytes\n\
     a lent row is too short\n\
@@ -67,7 +67,8 @@ const PATTERNS: [u8; 689] = *b"\
     the closure of arc # is neither 0 nor 1\n\
     line #, column #: no line of this kind of file begins so\n\
     line #, column #: the field is misspelt\n\
-    line #, column #: a field is missing or one too many\n";
+    line #, column #: a field is missing or one too many\n\
+    the module of node # is outside 1 to 32\n";
 
 // The line of the patterns that a refusal is told by, from its number and its first value.
 fn line_of(number: u32, first: u32) -> usize

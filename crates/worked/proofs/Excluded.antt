@@ -47,6 +47,6 @@ pub not-from-the-origin : {before : List ℤ}
     → ⊥
 unfolding table west
 not-from-the-origin b =
-    let right = build-accepts (line-of 25 table-right) refl .1 .entries 1 (omega arith) (omega arith) in
-    let wrong = build-accepts b refl .1 .entries 1 (omega arith) (omega arith) in
+    let right = build-accepts (line-of 25 table-right) refl .1 .drawn refl .entries 1 (omega arith) (omega arith) in
+    let wrong = build-accepts b refl .1 .drawn refl .entries 1 (omega arith) (omega arith) in
     pos-ne-negsuc 0 19 (sym (ap (λ (c : Box). c .right) (around-unique right wrong)))

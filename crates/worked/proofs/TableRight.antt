@@ -4,6 +4,7 @@ use mathlib.Core.Path.{_≡_, refl, subst}
 use mathlib.Core.Logic.{_↔_}
 use mathlib.Core.Bool.{Bool, true, _&&_}
 use mathlib.Core.List.{List, [], _∷_}
+use native.Mathlib.Omega.{arith}
 use borrow.Author.Tests.{leb-true}
 use lib.Dec.{leb}
 use Rattle.rules.specs.Judging.{each, isFine}
@@ -23,45 +24,47 @@ use Rattle.dimacs.specs.Reading.{readP2p}
 use Rattle.walks.specs.Rows.{network}
 use Rattle.walks.specs.Through.{InS}
 use Rattle.geometry.specs.Hull.{smaller, larger, taken}
+use Rattle.masks.specs.Mask.{bit, lighted}
+use Rattle.masks.specs.Panel.{modulesFrom}
 use Rattle.settling.specs.Labels.{before, startOf, labelled, offered, marked}
 use Rattle.settling.specs.Settle.{arcStep, relaxed, settleOf}
 use Rattle.settling.specs.Nearest.{better, leaderOf, nearestOf}
 use Rattle.settling.specs.Run.{afterPick, runOf}
 use Rattle.settling.specs.Trace.{fits, firstOf, arcFits, intoOf, afterInto, traceOf}
 use Rattle.settling.specs.LengthsTo.{onShortest}
-use Rattle.judging.specs.Order.{arcsJudged, networkJudged, searchedBy, placedBy, shapedBy, searchJudged, boxedJudged, buildJudged, checkJudged, updateJudged, whyJudged, dayJudged}
+use Rattle.judging.specs.Order.{arcsJudged, networkJudged, searchedBy, placedBy, shapedBy, searchJudged, buildJudged, checkJudged, updateJudged, whyJudged, dayJudged}
 use Rattle.judging.proofs.StageLaws.{network-fine}
 use Rattle.drawing.specs.Leads.{leadsAt, lengthsTo}
-use Rattle.drawing.specs.Grown.{grownIf, grownBy}
+use Rattle.drawing.specs.Gathered.{addIf, gathered}
 use Rattle.drawing.specs.Missed.{missesNode}
 use Rattle.reasons.specs.Using.{Among}
 use Rattle.reasons.specs.Steps.{isAmong}
 use Rattle.reasons.proofs.Computed.{reasonBy, reasonOf, judgedReply, replyOf, reply-says}
 use Rattle.daylist.specs.Replies.{withRoute, withNone, total}
-use Rattle.worked.specs.Plans.{hall, reweightedHall, closedHall, cutHall, shutHall, oneWay, zeros, behind, west, triangle, detour, closedTriangle, bridge, liftedBridge, hallBoxes, ledBoxes, closedBoxes, raisedBoxes, wideBoxes, flatBoxes, fullBoxes, treeBoxes, triangleBoxes, mendedBoxes, route, answers}
-use Rattle.worked.proofs.Computed.{orTold, answerOf, searchTold, boxedTold, repliesTold, dayTold, drawnTo, buildTold, updateTold, lowestNode, orArc, lowestArc, checkTold, membersFrom, membersOf}
-use Rattle.worked.proofs.ComputedLaws.{search-told, boxed-told, day-told, build-told, check-told, update-told}
+use Rattle.worked.specs.Plans.{hall, farHall, reweightedHall, closedHall, cutHall, shutHall, oneWay, zeros, behind, west, triangle, detour, closedTriangle, bridge, liftedBridge, hallBoxes, ledBoxes, closedBoxes, raisedBoxes, wideBoxes, flatBoxes, fullBoxes, treeBoxes, triangleBoxes, mendedBoxes, hallMasks, mixedMasks, route, answers, panel}
+use Rattle.worked.proofs.Computed.{orTold, answerOf, searchTold, repliesTold, dayTold, drawnTo, drawnIf, buildTold, updateTold, lowestNode, orArc, lowestArc, checkTold, lampsTold, membersFrom, membersOf}
+use Rattle.worked.proofs.ComputedLaws.{search-told, day-told, build-told, check-told, update-told, lamps-told}
 use Rattle.worked.proofs.MembersLaws.{members-are}
 use Rattle.worked.proofs.Tests.{sameNumbers, same-numbers, sameTold, same-told, walks, walks-by}
-use Rattle.worked.specs.Table.{Told, Call, search, boxed, build, check, update, why, day, Says, Case, set, walk, call, Right, Each, no-line, line, table, TableRight}
+use Rattle.worked.specs.Table.{Told, lent, Call, search, build, check, update, why, day, lamps, Says, Case, set, walk, call, Right, Each, no-line, line, table, TableRight}
 
 abbrev pub toldOf : Call → Told
-toldOf (search p s t) = searchTold (p .nodes) (p .arcs) (p .rows) s t route
-toldOf (boxed p boxes s t) = boxedTold (p .nodes) (p .arcs) (p .rows) (p .x) (p .y) boxes s t route
-toldOf (build p before) = buildTold (p .nodes) (p .arcs) (p .rows) (p .x) (p .y) before
-toldOf (check p boxes) = checkTold (p .nodes) (p .arcs) (p .rows) (p .x) (p .y) boxes
+toldOf (search p by s t) = searchTold (by .asked) (p .nodes) (p .arcs) (p .rows) (lent p by) s t route
+toldOf (build p by) = buildTold (p .nodes) (p .arcs) (p .rows) (by .asked) (lent p by)
+toldOf (check p by) = checkTold (by .asked) (p .nodes) (p .arcs) (p .rows) (lent p by)
 toldOf (update p boxes arc weight closure) = updateTold (p .nodes) (p .arcs) (p .rows) (p .x) (p .y) boxes arc weight closure
 toldOf (why p s t arc) = record { reply = replyOf (p .nodes) (p .arcs) (p .rows) s t arc; numbers = []; closures = []; boxes = [] }
 toldOf (day p boxes text) = dayTold (p .nodes) (p .arcs) (p .rows) (p .x) (p .y) boxes answers (readP2p text (p .nodes) answers)
+toldOf (lamps mask) = lampsTold mask panel
 
 says : (c : Call) → Says c (toldOf c)
-says (search p s t) = search-told (p .nodes) (p .arcs) (p .rows) s t route
-says (boxed p boxes s t) = boxed-told (p .nodes) (p .arcs) (p .rows) s t route (p .x) (p .y) boxes
-says (build p before) = build-told (p .nodes) (p .arcs) (p .rows) (p .x) (p .y) before
-says (check p boxes) = check-told (p .nodes) (p .arcs) (p .rows) (p .x) (p .y) boxes
+says (search p by s t) = search-told (by .asked) (p .nodes) (p .arcs) (p .rows) (lent p by) s t route
+says (build p by) = build-told (by .asked) (p .nodes) (p .arcs) (p .rows) (lent p by)
+says (check p by) = check-told (by .asked) (p .nodes) (p .arcs) (p .rows) (lent p by)
 says (update p boxes arc weight closure) = update-told (p .nodes) (p .arcs) (p .rows) (p .x) (p .y) boxes arc weight closure
 says (why p s t arc) = reply-says (p .nodes) (p .arcs) (p .rows) s t arc
 says (day p boxes text) = day-told (p .nodes) (p .arcs) (p .rows) (p .x) (p .y) boxes text answers
+says (lamps mask) = lamps-told mask panel (omega arith)
 
 unfoldable pub passes : Case → Bool
 passes (set p e nodes) =
@@ -95,12 +98,12 @@ each-right (c ∷ cs) h = let p = and-true (passes c) (allPass cs) h in line (pa
 
 pub table-right : TableRight
 unfolding
-    table allPass passes hall reweightedHall closedHall cutHall shutHall oneWay zeros behind west triangle detour closedTriangle bridge liftedBridge
-    hallBoxes ledBoxes closedBoxes raisedBoxes wideBoxes flatBoxes fullBoxes treeBoxes triangleBoxes mendedBoxes
-    orTold answerOf searchTold boxedTold drawnTo buildTold updateTold lowestNode orArc lowestArc checkTold membersFrom
-    arcsJudged networkJudged searchedBy placedBy shapedBy searchJudged boxedJudged buildJudged checkJudged updateJudged whyJudged each smaller larger taken
+    table allPass passes hall farHall reweightedHall closedHall cutHall shutHall oneWay zeros behind west triangle detour closedTriangle bridge liftedBridge
+    hallBoxes ledBoxes closedBoxes raisedBoxes wideBoxes flatBoxes fullBoxes treeBoxes triangleBoxes mendedBoxes hallMasks mixedMasks
+    orTold answerOf searchTold drawnTo drawnIf buildTold updateTold lowestNode orArc lowestArc checkTold membersFrom
+    arcsJudged networkJudged searchedBy placedBy shapedBy searchJudged buildJudged checkJudged updateJudged whyJudged each smaller larger taken
     before startOf labelled offered marked arcStep relaxed settleOf better leaderOf nearestOf afterPick runOf
-    fits firstOf arcFits intoOf afterInto traceOf onShortest leadsAt lengthsTo grownIf grownBy missesNode
+    fits firstOf arcFits intoOf afterInto traceOf onShortest leadsAt lengthsTo addIf gathered missesNode bit lighted modulesFrom
     isAmong reasonBy reasonOf judgedReply replyOf
     bytes opening pieces firstAt sameBytes valueFrom naturalOf plain negated integerOf fields.before takenNatural takenInteger fields.taken onField matched lineOf
     within p2pLine p2pRules problemJudged dataJudged judged ended next onJudged readLines readText readP2p

@@ -1,4 +1,4 @@
--- The plans of 01, every track open: the hall, and its other small networks; and for request b some with tracks closed.
+-- The plans of 01, every track open: the hall, and its other small networks; for request b some with tracks closed; and the hall's modules for request h.
 use Prim.Native.Nat.{ℕ, zero, suc}
 use mathlib.Core.List.{List, [], _∷_}
 use lib.IntN.{ℤ, pos, negsuc}
@@ -15,10 +15,14 @@ pub record Plan : Type 0 where
   pub rows : Rows
   pub x : List ℤ
   pub y : List ℤ
+  pub modules : List ℕ
 
--- the plan with other arc rows
+-- the plan with other arc rows, and with other modules
 abbrev with : Plan → Rows → Plan
-with p r = record { nodes = p .nodes; arcs = p .arcs; rows = r; x = p .x; y = p .y }
+with p r = record { nodes = p .nodes; arcs = p .arcs; rows = r; x = p .x; y = p .y; modules = p .modules }
+
+abbrev numbered : Plan → List ℕ → Plan
+numbered p modules = record { nodes = p .nodes; arcs = p .arcs; rows = p .rows; x = p .x; y = p .y; modules = modules }
 
 -- net.gr and net.co
 unfoldable pub hall : Plan
@@ -28,7 +32,12 @@ hall = record {
   rows = record { tails = 1 ∷ 2 ∷ 1 ∷ 3 ∷ 1 ∷ 4 ∷ []; heads = 2 ∷ 3 ∷ 3 ∷ 4 ∷ 4 ∷ 1 ∷ []; weights = 3 ∷ 2 ∷ 5 ∷ 1 ∷ 9 ∷ 4 ∷ []; closures = replicate 6 0 };
   x = pos 0 ∷ pos 10 ∷ pos 10 ∷ negsuc 4 ∷ [];
   y = pos 0 ∷ pos 0 ∷ pos 5 ∷ pos 20 ∷ [];
+  modules = 1 ∷ 2 ∷ 3 ∷ 32 ∷ [];
 }
+
+-- the hall with node 3 in a module that no panel has
+unfoldable pub farHall : Plan
+farHall = numbered hall (1 ∷ 2 ∷ 33 ∷ 32 ∷ [])
 
 -- the hall with arc 5 reweighted to 6
 unfoldable pub reweightedHall : Plan
@@ -48,7 +57,7 @@ shutHall = with hall (rows (hall .rows .tails) (hall .rows .heads) (hall .rows .
 
 -- two nodes, only arc 2 to 1
 unfoldable pub oneWay : Plan
-oneWay = record { nodes = 2; arcs = 1; rows = record { tails = 2 ∷ []; heads = 1 ∷ []; weights = 7 ∷ []; closures = 0 ∷ [] }; x = pos 0 ∷ pos 1 ∷ []; y = pos 0 ∷ pos 1 ∷ [] }
+oneWay = record { nodes = 2; arcs = 1; rows = record { tails = 2 ∷ []; heads = 1 ∷ []; weights = 7 ∷ []; closures = 0 ∷ [] }; x = pos 0 ∷ pos 1 ∷ []; y = pos 0 ∷ pos 1 ∷ []; modules = [] }
 
 -- arcs 1-2 and 2-1 of weight 0, 1-3 and 2-3 of weight 5
 unfoldable pub zeros : Plan
@@ -58,6 +67,7 @@ zeros = record {
   rows = record { tails = 1 ∷ 2 ∷ 1 ∷ 2 ∷ []; heads = 2 ∷ 1 ∷ 3 ∷ 3 ∷ []; weights = 0 ∷ 0 ∷ 5 ∷ 5 ∷ []; closures = replicate 4 0 };
   x = pos 0 ∷ pos 10 ∷ pos 20 ∷ [];
   y = pos 0 ∷ pos 0 ∷ pos 0 ∷ [];
+  modules = [];
 }
 
 -- the same with an arc 3-4 behind it; node 4 lies apart, and the places of 1 and 2 between those of 3 and 4
@@ -68,6 +78,7 @@ behind = record {
   rows = record { tails = 1 ∷ 2 ∷ 1 ∷ 2 ∷ 3 ∷ []; heads = 2 ∷ 1 ∷ 3 ∷ 3 ∷ 4 ∷ []; weights = 0 ∷ 0 ∷ 5 ∷ 5 ∷ 1 ∷ []; closures = replicate 5 0 };
   x = pos 10 ∷ pos 12 ∷ pos 0 ∷ pos 30 ∷ [];
   y = pos 0 ∷ pos 1 ∷ pos 0 ∷ pos 5 ∷ [];
+  modules = [];
 }
 
 -- two nodes west of the origin, and an arc between them
@@ -78,6 +89,7 @@ west = record {
   rows = record { tails = 1 ∷ []; heads = 2 ∷ []; weights = 1 ∷ []; closures = 0 ∷ [] };
   x = negsuc 9 ∷ negsuc 19 ∷ [];
   y = negsuc 9 ∷ negsuc 4 ∷ [];
+  modules = [];
 }
 
 -- arcs 1-2, 2-3 and 1-3, each of weight 1
@@ -88,6 +100,7 @@ triangle = record {
   rows = record { tails = 1 ∷ 2 ∷ 1 ∷ []; heads = 2 ∷ 3 ∷ 3 ∷ []; weights = 1 ∷ 1 ∷ 1 ∷ []; closures = replicate 3 0 };
   x = pos 0 ∷ pos 10 ∷ pos 10 ∷ [];
   y = pos 0 ∷ pos 0 ∷ pos 10 ∷ [];
+  modules = [];
 }
 
 -- its arc 3 reweighted to 5: now 1 to 3 goes through 2
@@ -106,6 +119,7 @@ bridge = record {
   rows = record { tails = 1 ∷ []; heads = 2 ∷ []; weights = mostWeight ∷ []; closures = 0 ∷ [] };
   x = pos 0 ∷ pos 1 ∷ [];
   y = pos 0 ∷ pos 1 ∷ [];
+  modules = [];
 }
 
 unfoldable pub liftedBridge : Plan
@@ -167,13 +181,33 @@ triangleBoxes = box (pos 10) (pos 10) (pos 0) (pos 0) (box (pos 10) (pos 10) (po
 unfoldable pub mendedBoxes : List ℤ
 mendedBoxes = box (pos 10) (pos 10) (pos 0) (pos 10) (box (pos 10) (pos 10) (pos 10) (pos 10) (box (pos 10) (pos 10) (pos 10) (pos 10) []))
 
--- ---- Rows as they are lent: for six boxes, for a route of four nodes, and for the answers of a list
+-- ---- Rows of masks
+
+-- the hall's: the modules 2, 3 and 32; 1, 3 and 32; 3 and 32; 1, 2 and 32; none; 1, 2 and 3
+unfoldable pub hallMasks : List ℕ
+hallMasks = 2_147_483_654 ∷ 2_147_483_653 ∷ 2_147_483_652 ∷ 2_147_483_651 ∷ 0 ∷ 7 ∷ []
+
+-- those of arcs 4 and 5 mixed up
+unfoldable pub mixedMasks : List ℕ
+mixedMasks = 2_147_483_654 ∷ 2_147_483_653 ∷ 2_147_483_652 ∷ 0 ∷ 2_147_483_651 ∷ 7 ∷ []
+
+-- no module anywhere
+abbrev pub darkMasks : List ℕ
+darkMasks = replicate 6 0
+
+-- ---- Rows as they are lent: for six boxes, for six masks, for a route of four nodes, for the answers of a list, and for the panel
 
 abbrev pub blank : List ℤ
 blank = replicate 24 (pos 7)
+
+abbrev pub blankMasks : List ℕ
+blankMasks = replicate 6 7
 
 abbrev pub route : List ℕ
 route = 0 ∷ 0 ∷ 0 ∷ 0 ∷ []
 
 unfoldable pub answers : List ℕ
 answers = replicate 256 7
+
+abbrev pub panel : List ℕ
+panel = replicate 33 7

@@ -73,7 +73,7 @@ fn judge_coordinates(n: u32, x: &[i32], y: &[i32]) -> Judged
     let Judged::Fine = b else {
         return b;
     };
-    judge_places(places, x, y)
+    judge_places(true, places, x, y)
 }
 
 // Writes coordinates as a coordinate file into a row.

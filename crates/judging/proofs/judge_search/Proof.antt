@@ -8,13 +8,12 @@ use Rattle.judging.proofs.judge_search.Tie as tie
 
 returns : tie.Need-returns
 unfolding searchedBy searchJudged
-returns c = refusal-decides _ (c .before .before .judge-network .ensures) (c .enum-told2 .given .1)
+returns c = refusal-decides _ (c .before .before .judge-shaped .ensures) (c .enum-told2 .given .1)
 
 returns-2 : tie.Need-returns-2
 unfolding searchedBy searchJudged
 returns-2 c =
-    rest-decides (c .before .before .before .judge-network .ensures) (c .before .enum-told .given .1)
-    (c .judge-ends .ensures ∙ sym (nothing-follows _))
+    rest-decides (c .before .before .before .judge-shaped .ensures) (c .before .enum-told .given .1) (c .judge-ends .ensures ∙ sym (nothing-follows _))
 
 pub judge-search-spec : {M : Type 1} → statement M
 judge-search-spec =

@@ -13,8 +13,7 @@ returns c = refusal-decides _ (c .before .before .judge-check .ensures) (c .enum
 returns-2 : tie.Need-returns-2
 unfolding updateJudged
 returns-2 c =
-    rest-decides (c .before .before .before .judge-check .ensures) (c .before .enum-told .given .1)
-    (c .judge-change .ensures ∙ sym (nothing-follows _))
+    rest-decides (c .before .before .before .judge-check .ensures) (c .before .enum-told .given .1) (c .judge-change .ensures ∙ sym (nothing-follows _))
 
 pub judge-update-spec : {M : Type 1} → statement M
 judge-update-spec =

@@ -16,12 +16,12 @@ slice-aggregate-read-co c =
 returns-2 : tie.Need-returns-2
 returns-2 c =
     let read = rw (c .before .before .before .before .before .before .before .enum-told2 .given .1) at (c .before .before .before .before .before .before .before .before .before .before .before .read-co .ensures) in
-    (with-boxes _ (c .before .before .before .before .before .before .before .before .before .before .before .before .before .before .before .before .places .given .1) (c .enum-told3 .given .1) read (c .before .before .before .build .ensures), c .before .before .before .before .before .before .before .before .before .before .before .before .before .before .before .before .before .before .before .before .before .before .before .pre .0)
+    (with-boxes _ (c .before .before .before .before .before .before .before .before .before .before .before .before .before .before .before .before .places .given .1) (c .enum-told3 .given .1) read (c .before .before .before .build-boxes .ensures), c .before .before .before .before .before .before .before .before .before .before .before .before .before .before .before .before .before .before .before .before .before .before .before .pre .0)
 
 returns-3 : tie.Need-returns-3
 returns-3 c =
     let read = rw (c .before .before .before .before .before .before .before .before .enum-told2 .given .1) at (c .before .before .before .before .before .before .before .before .before .before .before .before .read-co .ensures) in
-    (with-boxes _ (c .before .before .before .before .before .before .before .before .before .before .before .before .before .before .before .before .before .places .given .1) (c .before .answer .given .1) read (c .before .before .before .before .build .ensures), tt)
+    (with-boxes _ (c .before .before .before .before .before .before .before .before .before .before .before .before .before .before .before .before .before .places .given .1) (c .before .answer .given .1) read (c .before .before .before .before .build-boxes .ensures), tt)
 
 returns-4 : tie.Need-returns-4
 returns-4 c =

@@ -24,7 +24,7 @@ judge-places-requires c κs =
     let a = c .before .before .before .before .before .before .args in
     let p = and-true (leb 1 (a .n)) (leb (a .n) 512) (passed _ _ (sym (c .before .before .before .before .before .unless .ensures) ∙ c .before .before .before .enum-told .given .1)) in
     let q = and-true (leb (a .n) (length (a .x .now))) (leb (a .n) (length (a .y .now))) (passed _ _ (sym (c .before .before .judge-lengths .ensures) ∙ c .enum-told3 .given .1)) in
-    (leb-true _ _ (p .1), leb-true _ _ (q .0), leb-true _ _ (q .1))
+    (leb-true _ _ (p .1), λ h. (leb-true _ _ (q .0), leb-true _ _ (q .1)))
 
 returns-3 : tie.Need-returns-3
 unfolding placesJudged

@@ -13,14 +13,12 @@ returns c = refusal-decides _ (c .before .before .judge-placed .ensures) (c .enu
 
 judge-boxes-requires : tie.Need-judge-boxes-requires
 judge-boxes-requires c κs =
-    let l = placed-fine _ _ _ _ _ _ _ (sym (c .before .before .judge-placed .ensures) ∙ c .enum-told .given .1) .0 in
-    (l .sound .arcs-high, l .boxes-long)
+    let l = placed-fine _ _ _ _ _ _ (sym (c .before .before .judge-placed .ensures) ∙ c .enum-told .given .1) .0 in (l .sound .arcs-high, λ h. l .places h .boxes-long)
 
 returns-2 : tie.Need-returns-2
 unfolding shapedBy
 returns-2 c =
-    rest-decides (c .before .before .before .judge-placed .ensures) (c .before .enum-told .given .1)
-    (c .judge-boxes .ensures ∙ sym (nothing-follows _))
+    rest-decides (c .before .before .before .judge-placed .ensures) (c .before .enum-told .given .1) (c .judge-boxes .ensures ∙ sym (nothing-follows _))
 
 pub judge-shaped-spec : {M : Type 1} → statement M
 judge-shaped-spec =

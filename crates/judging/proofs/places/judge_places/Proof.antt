@@ -1,6 +1,6 @@
 -- `judging::places::judge_places` meets its contract. The loop's invariant: the nodes up to at are good.
 use Prim.Native.Nat.{_+_, _-_, _≤_}
-use mathlib.Core.Path.{_≡_, sym, _∙_}
+use mathlib.Core.Path.{_≡_, refl, sym, _∙_}
 use native.Mathlib.Omega.{arith}
 use borrow.Author.Tests.{not-true, not-false}
 use Rattle.rules.specs.declared.Judged.the-variants.{Fine}
@@ -12,35 +12,47 @@ use Rattle.judging.proofs.places.judge_places.Statement.{statement}
 use Rattle.judging.proofs.places.judge_places.Tie as tie
 
 abbrev Inv-loop : tie.InvT-loop
-Inv-loop n x y at₀ at = (at ≤ n) × (coordinates at x y ≡ Fine)
+Inv-loop asked n x y at₀ at = (at ≤ n) × (coordinates at x y ≡ Fine)
 
 abbrev μ-loop : tie.MeasureT-loop
-μ-loop n x y at₀ at = n - at
+μ-loop asked n x y at₀ at = n - at
 
 returns : tie.Need-returns Inv-loop μ-loop
-returns c = sym (is-fine _ (sym (c .before .all-places-good .ensures) ∙ c .if1 .taken))
+returns c = rw (not-true (c .before .args .asked) (c .if1 .taken)) refl
+
+all-places-good-requires : tie.Need-all-places-good-requires Inv-loop μ-loop
+all-places-good-requires c κs =
+    let long = c .before .pre .1 (not-false (c .before .args .asked) (c .if1 .left)) in (c .before .pre .0, long .0, long .1)
+
+returns-2 : tie.Need-returns-2 Inv-loop μ-loop
+returns-2 c =
+    rw (not-false (c .before .before .before .args .asked) (c .before .before .if1 .left)) (sym (is-fine _ (sym (c .before .all-places-good .ensures) ∙ c .if2 .taken)))
 
 loop-holds : tie.Need-loop-holds Inv-loop μ-loop
 loop-holds c = (omega arith, each-none _ _)
 
-returns-2 : tie.Need-returns-2 Inv-loop μ-loop
-returns-2 c =
-    let a = c .before .before .before .before .before .before .args in
-    let l = c .before .before .before .loop in
-    let bad = sym (c .before .good-place .ensures) ∙ not-true _ (c .if2 .taken) in
-    sym (each-first _ _ (l .at) (a .n) (l .inv .1) (sym (place-next (a .x .now) (a .y .now) (l .at)) ∙ bad) (omega arith))
-
-loop-again : tie.Need-loop-again Inv-loop μ-loop
-loop-again c =
-    let a = c .before .before .before .before .before .before .args in
-    let l = c .before .before .before .loop in
-    let good = sym (c .before .good-place .ensures) ∙ not-false _ (c .if2 .left) in
-    (omega arith, each-more _ _ (l .at) (l .inv .1) (sym (place-next (a .x .now) (a .y .now) (l .at)) ∙ good))
+good-place-requires : tie.Need-good-place-requires Inv-loop μ-loop
+good-place-requires c κs =
+    let long = c .before .before .before .before .before .pre .1 (not-false (c .before .before .before .before .before .args .asked) (c .before .before .before .before .if1 .left)) in (omega (arith, long .0), omega (arith, long .1))
 
 returns-3 : tie.Need-returns-3 Inv-loop μ-loop
 returns-3 c =
-    let last : c .before .loop .at ≡ c .before .before .before .before .args .n = omega arith in
-    sym (rw last at (c .before .loop .inv .1))
+    let l = c .before .before .before .loop in
+    let a = c .before .before .before .before .before .before .before .args in
+    let bad = sym (c .before .good-place .ensures) ∙ not-true _ (c .if3 .taken) in
+    rw (not-false (a .asked) (c .before .before .before .before .before .before .if1 .left)) (sym (each-first _ _ (l .at) (a .n) (l .inv .1) (sym (place-next (a .x .now) (a .y .now) (l .at)) ∙ bad) (omega arith)))
+
+loop-again : tie.Need-loop-again Inv-loop μ-loop
+loop-again c =
+    let l = c .before .before .before .loop in
+    let a = c .before .before .before .before .before .before .before .args in
+    let good = sym (c .before .good-place .ensures) ∙ not-false _ (c .if3 .left) in
+    (omega arith, each-more _ _ (l .at) (l .inv .1) (sym (place-next (a .x .now) (a .y .now) (l .at)) ∙ good))
+
+returns-4 : tie.Need-returns-4 Inv-loop μ-loop
+returns-4 c =
+    let last : c .before .loop .at ≡ c .before .before .before .before .before .args .n = omega arith in
+    rw (not-false (c .before .before .before .before .before .args .asked) (c .before .before .before .before .if1 .left)) (sym (rw last at (c .before .loop .inv .1)))
 
 pub judge-places-spec : {M : Type 1} → statement M
 judge-places-spec =
@@ -48,11 +60,13 @@ judge-places-spec =
     (tie.spec
     Inv-loop
     μ-loop
-    (λ c κs. search needs)
     returns
-    loop-holds
-    (λ c κs. search needs) (λ c. search needs) (λ c. search needs)
+    all-places-good-requires
     returns-2
+    loop-holds
+    good-place-requires
+    (λ c. search needs) (λ c. search needs)
+    returns-3
     (λ c. search needs) (λ c. search needs)
     loop-again
-    returns-3)
+    returns-4)

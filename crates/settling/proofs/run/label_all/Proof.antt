@@ -9,4 +9,8 @@ returns : tie.Need-returns
 returns c = ap (λ (o : Outcome). o .labels) (c .before .run-by .ensures)
 
 pub label-all-spec : {M : Type 1} → statement M
-label-all-spec = tie.close (tie.spec (λ c. search needs) (λ c. search needs) (λ c κs. search needs) returns)
+label-all-spec =
+    tie.close
+    (tie.spec
+    (λ c. search needs) (λ c. search needs) (λ c. search needs) (λ c κs. search needs)
+    returns)

@@ -11,27 +11,27 @@ use Rattle.settling.proofs.run.run_by.Statement.{statement}
 use Rattle.settling.proofs.run.run_by.Tie as tie
 
 abbrev Inv-loop : tie.InvT-loop
-Inv-loop rounds task tails heads weights closures first next boxes tree₀ r₀ tree r =
-    Strode (rows tails heads weights closures) boxes task (r .count) r tree
+Inv-loop rounds task tails heads weights closures first next boxes masks tree₀ r₀ tree r =
+    Strode (rows tails heads weights closures) boxes masks task (r .count) r tree
 
 abbrev μ-loop : tie.MeasureT-loop
-μ-loop rounds task tails heads weights closures first next boxes tree₀ r₀ tree r = leftOf (task .n) r
+μ-loop rounds task tails heads weights closures first next boxes masks tree₀ r₀ tree r = leftOf (task .n) r
 
 put-requires : tie.Need-put-requires Inv-loop μ-loop
 put-requires c κs =
-    let p = c .before .before .before .before .before .before .before .before .pre .2 in (omega (arith, p .source-low, p .source-high, p .sound .nodes-high), mended-start)
+    let p = c .before .before .before .before .before .before .before .before .before .pre .2 in (omega (arith, p .source-low, p .source-high, p .sound .nodes-high), mended-start)
 
 loop-holds : tie.Need-loop-holds Inv-loop μ-loop
 loop-holds c =
-    strode-on _ _ _ 0 refl (stands-start (c .before .before .before .before .before .before .before .before .before .before .pre .2) _ (c .before .put .ensures) (c .before .before .key .ensures) (c .start .ensures))
+    strode-on _ _ _ 0 refl (stands-start (c .before .before .before .before .before .before .before .before .before .before .before .pre .2) _ (c .before .put .ensures) (c .before .before .key .ensures) (c .start .ensures))
 
 settle-requires : tie.Need-settle-requires Inv-loop μ-loop
 settle-requires c κs =
-    let p = c .before .before .before .before .before .before .before .before .before .before .before .before .before .before .pre in (c .before .before .before .loop .inv .stands (not-true _ (c .before .if1 .taken)), p .3, p .1)
+    let p = c .before .before .before .before .before .before .before .before .before .before .before .before .before .before .before .pre in (c .before .before .before .loop .inv .stands (not-true _ (c .before .if1 .taken)), p .3, p .1)
 
 loop-less : tie.Need-loop-less Inv-loop μ-loop
 loop-less c =
-    strode-less (c .before .before .before .before .before .before .before .before .before .before .before .before .before .before .before .args .rounds) (c .before .before .before .before .before .before .before .before .before .before .before .before .before .before .before .pre .0) (not-true _ (c .before .before .if1 .taken)) (c .before .before .before .before .loop .inv) (c .settle .ensures)
+    strode-less (c .before .before .before .before .before .before .before .before .before .before .before .before .before .before .before .before .args .rounds) (c .before .before .before .before .before .before .before .before .before .before .before .before .before .before .before .before .pre .0) (not-true _ (c .before .before .if1 .taken)) (c .before .before .before .before .loop .inv) (c .settle .ensures)
 
 loop-again : tie.Need-loop-again Inv-loop μ-loop
 loop-again c = strode-here (c .settle .ensures)

@@ -11,15 +11,15 @@ use Rattle.settling.proofs.settle.settle.Statement.{statement}
 use Rattle.settling.proofs.settle.settle.Tie as tie
 
 abbrev Inv-loop : tie.InvT-loop
-Inv-loop count rounds tree₀ task tails heads weights closures first next boxes length₀ arcs₀ settled₀ done₀ left₀ tree length arcs settled done left =
-    (done + left ≡ count + rounds) × Stands (rows tails heads weights closures) boxes task done (labels length arcs settled) tree
+Inv-loop count rounds tree₀ task tails heads weights closures first next boxes masks length₀ arcs₀ settled₀ done₀ left₀ tree length arcs settled done left =
+    (done + left ≡ count + rounds) × Stands (rows tails heads weights closures) boxes masks task done (labels length arcs settled) tree
 
 abbrev μ-loop : tie.MeasureT-loop
-μ-loop count rounds tree₀ task tails heads weights closures first next boxes length₀ arcs₀ settled₀ done₀ left₀ tree length arcs settled done left =
+μ-loop count rounds tree₀ task tails heads weights closures first next boxes masks length₀ arcs₀ settled₀ done₀ left₀ tree length arcs settled done left =
     left
 
 loop-holds : tie.Need-loop-holds Inv-loop μ-loop
-loop-holds c = (omega arith, c .before .before .before .before .before .before .before .pre .0)
+loop-holds c = (omega arith, c .before .before .before .before .before .before .before .before .pre .0)
 
 returns : tie.Need-returns Inv-loop μ-loop
 returns c =
@@ -27,8 +27,8 @@ returns c =
     let L = labels (i .length) (i .arcs) (i .settled) in
     strode-over _ _ L (i .done) _ (stands-stuck (i .inv .1) (c .before .before .nearest .ensures) (c .enum-told .given .1))
 
-add-t30 : tie.Need-add-t30 Inv-loop μ-loop
-add-t30 c =
+add-t31 : tie.Need-add-t31 Inv-loop μ-loop
+add-t31 c =
     let i = c .before .before .before .before .before .before .before .before .loop in
     let told = c .before .before .before .before .before .nearest .ensures in
     let node = c .before .before .before .p .given .1 in
@@ -47,7 +47,7 @@ settle-one-requires c κs =
     let i = c .before .before .before .before .before .before .before .before .before .before .before .before .loop in
     let told = c .before .before .before .before .before .before .before .before .before .nearest .ensures in
     let node = c .before .before .before .before .before .before .before .p .given .1 in
-    (i .inv .1 .posed, c .before .before .before .before .before .before .before .before .before .before .before .before .before .before .before .before .before .before .before .before .pre .1, stands-ready (i .inv .1) told node, i .inv .1 .front)
+    (i .inv .1 .posed, c .before .before .before .before .before .before .before .before .before .before .before .before .before .before .before .before .before .before .before .before .before .pre .1, stands-ready (i .inv .1) told node, i .inv .1 .front)
 
 add-done : tie.Need-add-done Inv-loop μ-loop
 add-done c =
@@ -78,7 +78,7 @@ settle-spec =
     loop-holds
     (λ c κs. search needs) (λ c. search needs) (λ c. search needs)
     returns
-    add-t30
+    add-t31
     returns-2
     settle-one-requires
     add-done

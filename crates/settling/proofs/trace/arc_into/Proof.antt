@@ -11,54 +11,54 @@ use Rattle.walks.proofs.RowsLaws.{arc-at}
 use Rattle.frontier.specs.Chain.{From}
 use Rattle.settling.specs.Labels.{labels}
 use Rattle.settling.specs.Trace.{arcFits, intoOf}
-use Rattle.settling.specs.Toward.{keeps}
+use Rattle.passing.specs.Asking.{keeps}
 use Rattle.settling.proofs.TraceSteps.{Rest, hit, miss, over, into-whole, arc-shut, arc-fits}
 use Rattle.settling.proofs.AlongChains.{rest-from}
-use Rattle.settling.proofs.Widen.{room-less}
+use Rattle.passing.proofs.RoomLaws.{room-less}
 use borrow.Author.Needs.{needs}
 use Rattle.settling.proofs.trace.arc_into.Statement.{statement}
 use Rattle.settling.proofs.trace.arc_into.Tie as tie
 
 abbrev Inv-loop : tie.InvT-loop
-Inv-loop length arcs v m tails heads weights closures first next toward boxes l k j₀ j =
-    Rest (arcFits (rows tails heads weights closures) (keeps toward closures boxes) (labels length arcs []) v) m (intoOf (rows tails heads weights closures) (keeps toward closures boxes) (labels length arcs []) v m) j
+Inv-loop length arcs v m tails heads weights closures first next tests boxes masks l k j₀ j =
+    Rest (arcFits (rows tails heads weights closures) (keeps tests closures boxes masks) (labels length arcs []) v) m (intoOf (rows tails heads weights closures) (keeps tests closures boxes masks) (labels length arcs []) v m) j
     × (j ≤ m)
     × (j < m → getD heads j 0 ≡ v)
 
 abbrev μ-loop : tie.MeasureT-loop
-μ-loop length arcs v m tails heads weights closures first next toward boxes l k j₀ j = m - j
+μ-loop length arcs v m tails heads weights closures first next tests boxes masks l k j₀ j = m - j
 
 -- the arc at hand is sound
 arc :
     (c : tie.In-loop Inv-loop μ-loop) →
-    let a = c .before .before .before .before .before .before .before .before .before .args in
+    let a = c .before .before .before .before .before .before .before .before .before .before .args in
     let j = c .before .loop .j in SoundArc 512 (getD (a .tails .now) j 0) (getD (a .heads .now) j 0) (getD (a .weights .now) j 0)
-arc c = arc-at (c .before .before .before .before .before .before .before .before .before .pre .2) (c .before .loop .j) (c .loop-test .taken)
+arc c = arc-at (c .before .before .before .before .before .before .before .before .before .before .pre .2) (c .before .loop .j) (c .loop-test .taken)
 
 -- the next arc into v
 following :
     (c : tie.In-loop Inv-loop μ-loop) →
-    let a = c .before .before .before .before .before .before .before .before .before .args in
+    let a = c .before .before .before .before .before .before .before .before .before .before .args in
     let j = c .before .loop .j in From (a .m) (a .heads .now) (a .v) (j + 1) (getD (a .next .now) j 0)
-following c = rw (c .before .loop .inv .2 (c .loop-test .taken)) at (c .before .before .before .before .before .before .before .before .before .pre .4 .nexts (c .before .loop .j) (c .loop-test .taken))
+following c = rw (c .before .loop .inv .2 (c .loop-test .taken)) at (c .before .before .before .before .before .before .before .before .before .before .pre .4 .nexts (c .before .loop .j) (c .loop-test .taken))
 
 cast-j : tie.Need-cast-j Inv-loop μ-loop
 cast-j c =
-    omega (arith, c .before .before .before .before .before .before .before .pre .4 .firsts (c .before .before .before .before .before .before .before .args .v) (c .before .before .before .before .before .before .before .pre .0) (c .before .before .before .before .before .before .before .pre .1) .high, c .before .before .before .before .before .before .before .pre .2 .arcs-high)
+    omega (arith, c .before .before .before .before .before .before .before .before .pre .4 .firsts (c .before .before .before .before .before .before .before .before .args .v) (c .before .before .before .before .before .before .before .before .pre .0) (c .before .before .before .before .before .before .before .before .pre .1) .high, c .before .before .before .before .before .before .before .before .pre .2 .arcs-high)
 
 loop-holds : tie.Need-loop-holds Inv-loop μ-loop
 loop-holds c =
-    let a = c .before .before .before .before .before .before .before .args in
+    let a = c .before .before .before .before .before .before .before .before .args in
     let R = rows (a .tails .now) (a .heads .now) (a .weights .now) (a .closures .now) in
-    let K = keeps (a .toward) (a .closures .now) (a .boxes .now) in
+    let K = keeps (a .tests) (a .closures .now) (a .boxes .now) (a .masks .now) in
     let L = labels (a .length .now) (a .arcs .now) [] in
     let whole = intoOf R K L (a .v) (a .m) in
-    let f = c .before .before .before .before .before .before .before .pre .4 .firsts (a .v) (c .before .before .before .before .before .before .before .pre .0) (c .before .before .before .before .before .before .before .pre .1) in
+    let f = c .before .before .before .before .before .before .before .before .pre .4 .firsts (a .v) (c .before .before .before .before .before .before .before .before .pre .0) (c .before .before .before .before .before .before .before .before .pre .1) in
     (rest-from R K L (a .v) whole f (into-whole R K L (a .v) (a .m)), f .high, f .holds)
 
 passes-requires : tie.Need-passes-requires Inv-loop μ-loop
 passes-requires c κs =
-    let a = c .before .before .before .before .before .before .before .before .before .args in (omega arith, omega (arith, c .before .before .before .before .before .before .before .before .before .pre .2 .closures-long), room-less (a .toward) (a .boxes .now) (a .m) (c .before .loop .j + 1) (omega arith) (c .before .before .before .before .before .before .before .before .before .pre .3))
+    let a = c .before .before .before .before .before .before .before .before .before .before .args in (omega arith, omega (arith, c .before .before .before .before .before .before .before .before .before .before .pre .2 .closures-long), room-less (a .tests) (a .boxes .now) (a .masks .now) (a .m) (c .before .loop .j + 1) (omega arith) (c .before .before .before .before .before .before .before .before .before .before .pre .3))
 
 cast-u : tie.Need-cast-u Inv-loop μ-loop
 cast-u c = let s = arc (c .before .before .before) in omega arith
@@ -80,25 +80,25 @@ element-copy-out-from-k c = let s = arc (c .before .before .before .before) in o
 
 returns : tie.Need-returns Inv-loop μ-loop
 returns c =
-    let a = c .before .before .before .before .before .before .before .before .before .before .before .before .before .before .before .before .before .args in
+    let a = c .before .before .before .before .before .before .before .before .before .before .before .before .before .before .before .before .before .before .args in
     let R = rows (a .tails .now) (a .heads .now) (a .weights .now) (a .closures .now) in
-    let K = keeps (a .toward) (a .closures .now) (a .boxes .now) in
+    let K = keeps (a .tests) (a .closures .now) (a .boxes .now) (a .masks .now) in
     let L = labels (a .length .now) (a .arcs .now) [] in
     let i = c .before .before .before .before .before .before .before .before .before .loop in
     hit _ _ _ (i .j) (i .inv .0) (c .before .before .before .before .before .before .before .before .loop-test .taken) (arc-fits R K L (a .v) (i .j) (i .inv .2 (c .before .before .before .before .before .before .before .before .loop-test .taken)) (sym (c .before .before .before .before .before .before .before .passes .ensures) ∙ c .before .before .before .before .before .before .if1 .taken) (sym (c .before .leads .ensures) ∙ c .if2 .taken))
 
 cast-j-2 : tie.Need-cast-j-2 Inv-loop μ-loop
 cast-j-2 c =
-    let f = following (c .before .before .before) in omega (arith, f .high, c .before .before .before .before .before .before .before .before .before .before .before .before .pre .2 .arcs-high)
+    let f = following (c .before .before .before) in omega (arith, f .high, c .before .before .before .before .before .before .before .before .before .before .before .before .before .pre .2 .arcs-high)
 
 loop-less : tie.Need-loop-less Inv-loop μ-loop
 loop-less c = let f = following (c .before .before .before) in omega (arith, f .low, f .high)
 
 loop-again : tie.Need-loop-again Inv-loop μ-loop
 loop-again c =
-    let a = c .before .before .before .before .before .before .before .before .before .before .before .before .args in
+    let a = c .before .before .before .before .before .before .before .before .before .before .before .before .before .args in
     let R = rows (a .tails .now) (a .heads .now) (a .weights .now) (a .closures .now) in
-    let K = keeps (a .toward) (a .closures .now) (a .boxes .now) in
+    let K = keeps (a .tests) (a .closures .now) (a .boxes .now) (a .masks .now) in
     let L = labels (a .length .now) (a .arcs .now) [] in
     let whole = intoOf R K L (a .v) (a .m) in
     let i = c .before .before .before .before .loop in
