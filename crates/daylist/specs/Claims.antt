@@ -19,7 +19,7 @@ use Rattle.search.specs.Says.{BoxedSays}
 use Rattle.daylist.specs.Replies.{noRoute, entry, withRoute, withNone, total}
 use Rattle.daylist.specs.Says.{DaySays}
 
--- Separate calls of `search_boxed` for the queries, in their order, each with a route row of its own, of at least n places
+-- Separate searches with boxes for the queries, in their order, each with a route row of its own, of at least n places
 pub data Separate (n m : ℕ) (R : Rows) (x y boxes : List ℤ) : List Numbers → List Reply → Type 0 where
   no-more : Separate n m R x y boxes [] []
   then : {q : Numbers} {queries : List Numbers} {reply : Reply} {replies : List Reply} {route route′ : List ℕ} → n ≤ length route
@@ -33,8 +33,8 @@ module _ (text : List ℕ) (n m : ℕ) (R : Rows) (x y boxes : List ℤ) (before
       (reply : Reply) × (after : List ℕ) × (DaySays text n m R x y boxes before reply after)
       × ((other : Reply) (row : List ℕ) → DaySays text n m R x y boxes before other row → (other ≡ reply) × (row ≡ after))
 
-  -- Lengths and totals are those of separate searches: each of the first K places is the length that `search_boxed` replies for its query,
-  -- or 4,294,967,295 where it replies 12, and the others are kept.
+  -- Lengths and totals are those of separate searches: each of the first K places is the length that the search with boxes replies for its
+  -- query, or 4,294,967,295 where it replies 12, and the others are kept.
   abbrev pub LengthsAndTotals : Type 0
   LengthsAndTotals =
       (problem : Numbers) (queries : List Numbers) (replies : List Reply) (results after : List ℕ)
