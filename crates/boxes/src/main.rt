@@ -1,4 +1,6 @@
 // Reads `net.gr` and `net.co`, builds the boxes and prints one line per arc, or why it was refused.
+#![tactic(auto)]
+
 ghost use Rattle.std.specs.Prelude.{◌≤◌, length};
 ghost use Rattle.pages.specs.Page.{Printed};
 ghost use Rattle.files.specs.File.{Within, held_in};

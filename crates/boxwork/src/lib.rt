@@ -1,4 +1,6 @@
 // The work on boxes and masks over rows as they are lent: build, check and update.
+#![tactic(auto)]
+
 ghost use Rattle.std.specs.Prelude.{◌≡◌, true, ◌-◌, ◌≤◌, length, set};
 ghost use Rattle.rules.specs.Paper.{judged_reply};
 ghost use Rattle.geometry.specs.Row.{Shaped};

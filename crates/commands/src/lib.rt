@@ -1,4 +1,6 @@
 // The console's commands: what a line of words asks for, or the first fault of it.
+#![tactic(auto)]
+
 pub mod arguments;
 pub mod faults;
 pub mod names;

@@ -4,7 +4,7 @@ ghost use Rattle.commands.specs.Rows.{stretch_from, stretch_of, Lies, row_of};
 
 use crate::names::place_of;
 
-#[derive(Drop)]
+#[derive(Clone, Copy)]
 pub enum Row {
     Tails,
     Heads,
@@ -25,7 +25,7 @@ pub enum RowName {
 }
 
 // What a row holds. The rows of a kind stand in one store.
-#[derive(Drop)]
+#[derive(Clone, Copy)]
 pub enum Kind {
     Counts,
     Numbers,

@@ -5,7 +5,7 @@ ghost use Rattle.commands.specs.Verbs.{format_of, verb_of, takes_words};
 use crate::names::place_of;
 
 // What is read from a file: a graph, the places of its nodes, a day's list.
-#[derive(Drop)]
+#[derive(Clone, Copy)]
 pub enum Reading {
     Gr,
     Co,
@@ -13,7 +13,7 @@ pub enum Reading {
 }
 
 // The kinds of files that are written.
-#[derive(Drop)]
+#[derive(Clone, Copy)]
 pub enum Format {
     Gr,
     Co,
@@ -37,7 +37,7 @@ fn format_of(word: &[u8]) -> FormatName
 }
 
 // The commands by their names.
-#[derive(Drop)]
+#[derive(Clone, Copy)]
 pub enum Verb {
     N,
     M,

@@ -1,4 +1,6 @@
 // The route box at a terminal or on a pipe: one command a line, one line as its reply.
+#![tactic(auto)]
+
 mod answer;
 mod state;
 

@@ -1,4 +1,6 @@
 // A row that a request writes is copied for it, and what it leaves is put back.
+#![tactic(auto)]
+
 ghost use Rattle.std.specs.Prelude.{◌≤◌, ◌≡◌};
 ghost use Rattle.commands.specs.Rows.{stretch_of};
 ghost use Rattle.commands.specs.declared.rows.Row.TheVariants.{Weights, Closed, Boxes, Route};

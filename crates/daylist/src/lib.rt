@@ -1,4 +1,6 @@
 // A day's running list: the queries of a text, answered in order on one network and set of boxes.
+#![tactic(auto)]
+
 ghost use Rattle.std.specs.Prelude.{◌≤◌, length};
 ghost use Rattle.dimacs.specs.Accepted.{P2pLimits};
 ghost use Rattle.walks.specs.Rows.{rows};

@@ -1,4 +1,6 @@
 // `p2p`: a day's list, read from a file, is answered on the lent rows, with a copy of the row `answers`.
+#![tactic(auto)]
+
 ghost use Rattle.std.specs.Prelude.{◌≤◌, ◌≡◌, length};
 ghost use Rattle.walks.specs.Rows.{rows};
 ghost use Rattle.files.specs.File.{Within, held_in};

@@ -12,7 +12,7 @@ use scan::holding::Numbers;
 use scan::line::{Line, read_line};
 
 // A format; the coordinates, and the queries, are of a graph of so many nodes.
-#[derive(Drop)]
+#[derive(Clone, Copy)]
 pub enum Format {
     Graph,
     Coordinates(u32),
@@ -20,14 +20,14 @@ pub enum Format {
 }
 
 // The least and the most that each number of a line may be.
-#[derive(Drop)]
+#[derive(Clone, Copy)]
 pub struct Limits {
     pub least: Numbers,
     pub most: Numbers,
 }
 
 // What is asked of the numbers on a format's lines.
-#[derive(Drop)]
+#[derive(Clone, Copy)]
 pub struct Rules {
     // the limits on the problem line
     pub problem: Limits,

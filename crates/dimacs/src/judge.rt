@@ -11,7 +11,7 @@ use scan::holding::Numbers;
 use scan::line::Line;
 
 // What was read of a text so far: its problem line, once it was seen, and how many data lines.
-#[derive(Drop)]
+#[derive(Clone, Copy)]
 pub struct Head {
     pub seen: bool,
     pub problem: Numbers,

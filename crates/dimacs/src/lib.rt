@@ -1,4 +1,6 @@
 // The text formats of the 9th DIMACS Implementation Challenge: a text becomes rows, or gets its numbered refusal.
+#![tactic(auto)]
+
 mod format;
 mod judge;
 mod rows;

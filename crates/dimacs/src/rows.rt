@@ -5,7 +5,7 @@ ghost use Rattle.dimacs.specs.Rules.{column_of, axis_of};
 use scan::holding::Numbers;
 
 // Which number without sign of a line.
-#[derive(Drop)]
+#[derive(Clone, Copy)]
 pub enum Column {
     First,
     Second,
@@ -13,7 +13,7 @@ pub enum Column {
 }
 
 // Which number of a line that may have a minus.
-#[derive(Drop)]
+#[derive(Clone, Copy)]
 pub enum Axis {
     X,
     Y,

@@ -1,4 +1,6 @@
 // Reading a file.
+#![tactic(auto)]
+
 ghost use Rattle.std.specs.Prelude.{length};
 ghost use Rattle.files.specs.File.{Within};
 

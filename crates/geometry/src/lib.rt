@@ -1,5 +1,7 @@
 // Boxes over lent rows of coordinates. Nodes and arcs are numbered from 1; the box of an arc is four numbers of
 // the row: left, right, low, high.
+#![tactic(auto)]
+
 ghost use Rattle.std.specs.Prelude.{◌≡◌, ◌+◌, ◌*◌, ◌<◌, ◌≤◌, ◌&&◌, length, int_le};
 ghost use Rattle.geometry.specs.Box.{WellShaped, mark, holds_b};
 ghost use Rattle.geometry.specs.Hull.{smaller, larger, taken};

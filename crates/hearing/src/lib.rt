@@ -1,4 +1,6 @@
 // The lines of the input.
+#![tactic(auto)]
+
 ghost use Rattle.std.specs.Prelude.{◌≡◌, ◌+◌, min, length, set};
 ghost use Rattle.hearing.specs.Hearing.{Ahead, ahead_of, HeardLine, Follows};
 

@@ -1,4 +1,6 @@
 // Reads `net.gr`, `net.co` and `day.p2p`, builds the boxes and prints one line per query and the totals, or why a file was refused.
+#![tactic(auto)]
+
 ghost use Rattle.std.specs.Prelude.{◌≤◌, length};
 ghost use Rattle.walks.specs.Rows.{rows};
 ghost use Rattle.pages.specs.Page.{Printed};

@@ -1,5 +1,7 @@
 // Judging what a call is lent, in the one order of refusals: a stage of it stands in each module, what calls have in common in
 // `network`, the calls here.
+#![tactic(auto)]
+
 ghost use Rattle.std.specs.Prelude.{◌≡◌};
 ghost use Rattle.walks.specs.Rows.{rows};
 ghost use Rattle.passing.specs.Signs.{signs};

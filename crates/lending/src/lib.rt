@@ -1,4 +1,6 @@
 // Lending: the rows of a console, what is lent of them, and `lend`, which stores the values of a judged line.
+#![tactic(auto)]
+
 pub mod rows;
 pub mod storing;
 

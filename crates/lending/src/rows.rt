@@ -7,7 +7,7 @@ ghost use Rattle.lending.specs.Stores.{stores, lent_at, lent_in, all_lent, part_
 use commands::rows::{Row, Stretch};
 
 // How many places of each row are lent at most, from the first on.
-#[derive(Drop)]
+#[derive(Clone, Copy)]
 pub struct Lent {
     pub most: [usize; 16],
 }

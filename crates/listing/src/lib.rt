@@ -1,4 +1,6 @@
 // The listings of the programs: that of `boxes`, one line per arc, here.
+#![tactic(auto)]
+
 pub mod journeys;
 
 ghost use Rattle.std.specs.Prelude.{◌+◌, ◌*◌, ◌≤◌, length};

@@ -1,4 +1,6 @@
 // A plan from its files: `net.gr` and `net.co` are read, and the boxes are built. `boxes` and `journeys` begin so.
+#![tactic(auto)]
+
 ghost use Rattle.std.specs.Prelude.{◌+◌, ◌≤◌, ◌≡◌, ◌++◌, length};
 ghost use Rattle.walks.specs.Rows.{rows};
 ghost use Rattle.pages.specs.Page.{Puts};

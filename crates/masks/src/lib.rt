@@ -1,4 +1,6 @@
 // Masks of modules 1 to 32, bit module minus 1, and the lamps of the panel.
+#![tactic(auto)]
+
 ghost use Rattle.std.specs.Prelude.{◌≡◌, ◌≤◌};
 ghost use Rattle.masks.specs.Mask.{has_b, lighted};
 ghost use Rattle.masks.specs.Paper.{paper};

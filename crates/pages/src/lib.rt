@@ -1,4 +1,6 @@
 // A page: bytes that are lent for a text, which is put together on them.
+#![tactic(auto)]
+
 pub mod rows;
 
 ghost use Rattle.std.specs.Prelude.{◌≡◌, ◌++◌, ◌+◌, ◌≤◌, length, nat_abs};

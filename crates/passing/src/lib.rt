@@ -1,4 +1,6 @@
 // Which arcs a search may use: the tests that are asked of each arc that it looks at.
+#![tactic(auto)]
+
 ghost use Rattle.std.specs.Prelude.{◌≡◌, true, ◌≤◌, length};
 ghost use Rattle.geometry.specs.Row.{coordinate};
 ghost use Rattle.walks.specs.Rows.{at};
@@ -7,21 +9,21 @@ ghost use Rattle.passing.specs.Asking.{place_if, module_if, Told, tests_toward, 
 use rules::Asked;
 
 // Where an arc's box must hold a place, or that boxes are not asked.
-#[derive(Drop)]
+#[derive(Clone, Copy)]
 pub enum Toward {
     Anywhere,
     Place(i32, i32),
 }
 
 // Which module an arc's mask must have, or that masks are not asked.
-#[derive(Drop)]
+#[derive(Clone, Copy)]
 pub enum Lamp {
     Any,
     Module(u32),
 }
 
 // What is asked of an arc, beside being open, and whether that is nothing.
-#[derive(Drop)]
+#[derive(Clone, Copy)]
 pub struct Tests {
     pub plain: bool,
     pub toward: Toward,

@@ -1,4 +1,6 @@
 // Writing to standard output.
+#![tactic(auto)]
+
 ghost use Rattle.std.specs.Prelude.{◌≤◌};
 
 use libc::STDOUT_FILENO;

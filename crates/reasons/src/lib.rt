@@ -1,4 +1,6 @@
 // "Why not by the bridge?": the reason that an arc is not on the route.
+#![tactic(auto)]
+
 ghost use Rattle.walks.specs.Rows.{rows};
 ghost use Rattle.reasons.specs.Paper.{paper};
 ghost use Rattle.reasons.specs.Says.{WhySays};

@@ -1,4 +1,6 @@
 // What the console does with just the places that are lent: a request is met, a file is read, and the reply is put on a page.
+#![tactic(auto)]
+
 ghost use Rattle.std.specs.Prelude.{◌≤◌, length};
 ghost use Rattle.files.specs.File.{Within, held_in};
 ghost use Rattle.lending.specs.Stores.{stores, Full};

@@ -1,4 +1,6 @@
 // The limits of the route box and its numbered refusals, shared by every part.
+#![tactic(auto)]
+
 ghost use Rattle.std.specs.Prelude.{◌≤◌, ◌≡◌, [], ◌∷◌};
 ghost use Rattle.rules.specs.Paper.{refusal, number_of, place_of, tells_column};
 ghost use Rattle.rules.specs.Told.{told_of};
@@ -26,7 +28,7 @@ pub const MODULES: u32 = 32;
 pub const TEXT: usize = 65536;
 
 // Why a call was refused: a case for each number of the paper, in its order, with the values that the paper also returns.
-#[derive(Drop)]
+#[derive(Clone, Copy)]
 pub enum Refusal {
     // 1: the text is over 65,536 bytes
     TextTooLong,
@@ -67,7 +69,7 @@ pub enum Refusal {
 }
 
 // Which of the lent signs a call goes by, to build, to check or to search with them: boxes, masks.
-#[derive(Drop)]
+#[derive(Clone, Copy)]
 pub struct Asked {
     pub boxes: bool,
     pub masks: bool,

@@ -1,4 +1,6 @@
 // Saving a file: the text goes to a new file beside the old one, which takes the old one's name once all is written.
+#![tactic(auto)]
+
 ghost use Rattle.std.specs.Prelude.{◌≤◌, length};
 
 use pages::put;

@@ -9,7 +9,7 @@ use crate::numbers::{Integer, Natural, read_integer, read_natural};
 use crate::pieces::{first_at, first_byte, front, rest, same_bytes};
 
 // What is wrong with a line.
-#[derive(Drop)]
+#[derive(Clone, Copy)]
 pub enum Kind {
     EmptyLine,
     NoLetter,
@@ -19,7 +19,7 @@ pub enum Kind {
 }
 
 // A fault of a line, and the column, from 1, where it is seen.
-#[derive(Drop)]
+#[derive(Clone, Copy)]
 pub struct Fault {
     pub kind: Kind,
     pub column: usize,

@@ -6,7 +6,7 @@ ghost use Rattle.scan.specs.Held.{held};
 // The numbers of a line in the order in which they stand on it: first, second and third are those without sign,
 // x and y those that may have a minus; 0 where there are fewer.
 // What is beyond 10,000,000 is held as 10,000,000: every limit of a format is far below.
-#[derive(Drop)]
+#[derive(Clone, Copy)]
 pub struct Numbers {
     pub first: u32,
     pub second: u32,

@@ -8,7 +8,7 @@ use crate::holding::Numbers;
 use crate::pieces::{first_at, front, same_bytes};
 
 // What a line is.
-#[derive(Drop)]
+#[derive(Clone, Copy)]
 pub enum Line {
     Comment,
     Problem(Numbers),

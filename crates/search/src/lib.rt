@@ -1,4 +1,6 @@
 // The route search over rows as they are lent, by what is asked of each arc.
+#![tactic(auto)]
+
 ghost use Rattle.walks.specs.Rows.{rows};
 ghost use Rattle.search.specs.Paper.{paper};
 ghost use Rattle.passing.specs.Signs.{signs};

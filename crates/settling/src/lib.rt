@@ -1,4 +1,6 @@
 // The search by labels: label arrays, the settling step, the run, and the route traced back.
+#![tactic(auto)]
+
 use passing::Tests;
 
 mod label;
@@ -8,7 +10,7 @@ mod settle;
 pub mod trace;
 
 // For each of 512 nodes: its length, its arc count and its settled mark. Length 4294967295 marks a node without a label.
-#[derive(Drop)]
+#[derive(Clone, Copy)]
 pub struct Labels {
     pub length: [u32; 512],
     pub arcs: [u32; 512],
@@ -40,7 +42,7 @@ pub enum Into {
 }
 
 // What a run is asked: from node s to node t, in a network of n nodes and m arcs, by the open arcs that pass the tests.
-#[derive(Drop)]
+#[derive(Clone, Copy)]
 pub struct Task {
     pub s: usize,
     pub t: usize,

@@ -1,4 +1,6 @@
 // Reads the texts of data/, and prints each reply with the places that were filled, row by row.
+#![tactic(auto)]
+
 mod show;
 
 ghost use Rattle.io.specs.Counts.{IsPrefixLen};

@@ -1,4 +1,6 @@
 // Refusals as the programs print them.
+#![tactic(auto)]
+
 ghost use Rattle.std.specs.Prelude.{◌+◌, ◌≤◌, ◌≡◌, length};
 ghost use Rattle.pages.specs.Page.{Puts};
 ghost use Rattle.pages.specs.Spaced.{counts_text};

@@ -1,4 +1,6 @@
 // Writes the plans back: the texts of a network and of its coordinates, as the readers of dimacs take them.
+#![tactic(auto)]
+
 mod lines;
 mod texts;
 
