@@ -5,7 +5,7 @@ ghost use Rattle.std.specs.Prelude.{length};
 ghost use Rattle.files.specs.File.{Within};
 
 // How many bytes of a file were read, or that it cannot be read.
-#[derive(Drop)]
+#[derive(Clone, Copy)]
 pub enum File {
     Bytes(usize),
     NoFile,

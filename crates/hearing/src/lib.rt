@@ -7,7 +7,7 @@ ghost use Rattle.hearing.specs.Hearing.{Ahead, ahead_of, HeardLine, Follows};
 use libc::STDIN_FILENO;
 
 // Where the next byte stands in the chunk that was read last, and where that ends.
-#[derive(Drop)]
+#[derive(Clone, Copy)]
 pub struct Input {
     pub at: usize,
     pub end: usize,
