@@ -83,7 +83,8 @@ pub fn read_line(
             };
         };
         ahead = more;
-        if byte == 10 {
+        let ends = byte == 10;
+        if ends {
             return Heard {
                 length,
                 ended: false,
