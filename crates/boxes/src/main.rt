@@ -11,6 +11,7 @@ use listing::put_listing;
 use loading::{Loaded, load, put_trouble, read_places};
 use pages::PAGE;
 use printing::out;
+use std::io;
 
 // What is printed, of what was read of the two files.
 fn list(page: &mut [u8; PAGE], gr: &[u8], graph: File, co: &[u8], places: File) -> usize
@@ -51,12 +52,12 @@ fn list(page: &mut [u8; PAGE], gr: &[u8], graph: File, co: &[u8], places: File) 
     }
 }
 
-fn main() {
+fn main(rt: HostRuntime) -> io::Result<()> {
     let mut gr = [0u8; 65537];
-    let graph = read_file(b"net.gr", &mut gr);
+    let graph = read_file(&rt, b"net.gr", &mut gr);
     let mut co = [0u8; 65537];
-    let places = read_places(&gr, graph, &mut co);
+    let places = read_places(&rt, &gr, graph, &mut co);
     let mut page = [0u8; PAGE];
     let end = list(&mut page, &gr, graph, &co, places);
-    out(&page, end);
+    out(&rt, &page, end)
 }

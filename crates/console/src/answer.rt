@@ -14,6 +14,7 @@ use plans::written::save;
 use replies::words::{put_fault, put_ok};
 use requests::{meet, read};
 use scan::pieces::front;
+use std::rt::Files;
 
 // What a line of so many bytes asks for.
 fn asked(line: &[u8], bytes: usize) -> Command
@@ -37,6 +38,7 @@ fn heard(line: &[u8], bytes: usize) -> &[u8]
 
 // Answers a line of so many bytes. An input that ends has no further line where no byte was left.
 pub fn answer(
+    rt: &impl Files,
     page: &mut [u8; PAGE],
     line: &[u8],
     length: usize,
@@ -92,11 +94,13 @@ pub fn answer(
             return State {
                 lent,
                 sizes,
-                end: save(page, words, format, sizes, lent, counts, numbers, bytes),
+                end: save(rt, page, words, format, sizes, lent, counts, numbers, bytes),
             };
         }
         Command::Read(reading) => {
-            let done = read(page, words, reading, sizes, lent, counts, numbers, bytes);
+            let done = read(
+                rt, page, words, reading, sizes, lent, counts, numbers, bytes,
+            );
             let next = done.sizes;
             return State {
                 lent,

@@ -13,6 +13,9 @@ use commands::rows::{BYTES, COUNTS, NUMBERS};
 use hearing::{Input, read_line};
 use pages::PAGE;
 use printing::out;
+use std::io;
+use std::io::Read;
+use std::rt::Files;
 
 // How many turns are left: none once the input has ended.
 fn turns_left(ended: bool, turns: u64) -> u64
@@ -28,12 +31,14 @@ fn turns_left(ended: bool, turns: u64) -> u64
 // Answers the lines of the input to its end. A proved loop has to end, and nothing says that an input does, so its turns
 // are counted down from a number that no run uses up.
 fn converse(
+    rt: &(impl Files + Print),
+    from: &mut impl Read,
     line: &mut [u8],
     page: &mut [u8; PAGE],
     counts: &mut [u32],
     numbers: &mut [i32],
     bytes: &mut [u8],
-)
+) -> io::Result<()>
     requires { Full (stores counts.old numbers.old bytes.old) }
 {
     let mut chunk = [0u8; 4096];
@@ -41,9 +46,10 @@ fn converse(
     let mut state = start();
     let mut turns = u64::MAX;
     while turns > 0 {
-        let heard = read_line(line, &mut chunk, ahead);
+        let heard = read_line(from, line, &mut chunk, ahead);
         ahead = heard.input;
         state = answer(
+            rt,
             page,
             line,
             heard.length,
@@ -53,16 +59,25 @@ fn converse(
             numbers,
             bytes,
         );
-        out(page, state.end);
+        out(rt, page, state.end)?;
         turns = turns_left(heard.ended, turns);
     }
+    Ok(())
 }
 
-fn main() {
+fn main(rt: HostRuntime) -> io::Result<()> {
     let mut line = [0u8; 262144];
     let mut page = [0u8; PAGE];
     let mut counts = [0u32; COUNTS];
     let mut numbers = [0i32; NUMBERS];
     let mut bytes = [0u8; BYTES];
-    converse(&mut line, &mut page, &mut counts, &mut numbers, &mut bytes);
+    converse(
+        &rt,
+        &mut rt.stdin(),
+        &mut line,
+        &mut page,
+        &mut counts,
+        &mut numbers,
+        &mut bytes,
+    )
 }

@@ -4,7 +4,7 @@
 ghost use Rattle.std.specs.Prelude.{◌≡◌, ◌+◌, min, length, set};
 ghost use Rattle.hearing.specs.Hearing.{Ahead, ahead_of, HeardLine, Follows};
 
-use libc::STDIN_FILENO;
+use std::io::Read;
 
 // Where the next byte stands in the chunk that was read last, and where that ends.
 #[derive(Clone, Copy)]
@@ -29,8 +29,9 @@ pub struct Heard {
     pub input: Input,
 }
 
-// The next byte. Only where the chunk is used up is more read: a line is then answered as soon as it is there.
-fn next_byte(chunk: &mut [u8; 4096], input: Input) -> Next
+// The next byte. Only where the chunk is used up is more read: a line is then answered as soon as it is there. A read that
+// fails is the end of the input.
+fn next_byte(from: &mut impl Read, chunk: &mut [u8; 4096], input: Input) -> Next
     requires { Ahead input }
     ensures { Follows chunk.old input chunk.new result }
 {
@@ -39,8 +40,9 @@ fn next_byte(chunk: &mut [u8; 4096], input: Input) -> Next
     if at < end {
         return Next::Byte(chunk[at], Input { at: at + 1, end });
     }
-    let got = libc::read(STDIN_FILENO, chunk);
-    let n = io::count(got, chunk);
+    let Ok(n) = from.read(chunk) else {
+        return Next::End;
+    };
     if n == 0 {
         return Next::End;
     }
@@ -59,7 +61,12 @@ fn hear(line: &mut [u8], at: usize, byte: u8) -> usize
 }
 
 // Reads up to the next byte 10 or the end of the input; what is beyond the line's room is passed over.
-pub fn read_line(line: &mut [u8], chunk: &mut [u8; 4096], input: Input) -> Heard
+pub fn read_line(
+    from: &mut impl Read,
+    line: &mut [u8],
+    chunk: &mut [u8; 4096],
+    input: Input,
+) -> Heard
     requires { Ahead input }
     ensures { HeardLine (ahead_of chunk.old input) line.old line.new result.length result.ended (ahead_of chunk.new result.input) × Ahead result.input }
 {
@@ -67,7 +74,7 @@ pub fn read_line(line: &mut [u8], chunk: &mut [u8; 4096], input: Input) -> Heard
     let mut ahead = input;
     let mut left = u64::MAX;
     while left > 0 {
-        let next = next_byte(chunk, ahead);
+        let next = next_byte(from, chunk, ahead);
         let Next::Byte(byte, more) = next else {
             return Heard {
                 length,
@@ -76,7 +83,8 @@ pub fn read_line(line: &mut [u8], chunk: &mut [u8; 4096], input: Input) -> Heard
             };
         };
         ahead = more;
-        if byte == 10 {
+        let ends = byte == 10;
+        if ends {
             return Heard {
                 length,
                 ended: false,

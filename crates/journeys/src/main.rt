@@ -15,6 +15,7 @@ use listing::journeys::{put_journeys, put_totals};
 use loading::{Loaded, Trouble, load, put_trouble, read_places};
 use pages::PAGE;
 use printing::out;
+use std::io;
 
 // What is printed of a day's list, on a plan with its boxes.
 fn list_day(
@@ -122,14 +123,14 @@ fn list(
     }
 }
 
-fn main() {
+fn main(rt: HostRuntime) -> io::Result<()> {
     let mut gr = [0u8; 65537];
-    let graph = read_file(b"net.gr", &mut gr);
+    let graph = read_file(&rt, b"net.gr", &mut gr);
     let mut co = [0u8; 65537];
-    let places = read_places(&gr, graph, &mut co);
+    let places = read_places(&rt, &gr, graph, &mut co);
     let mut text = [0u8; 65537];
-    let day = read_file(b"day.p2p", &mut text);
+    let day = read_file(&rt, b"day.p2p", &mut text);
     let mut page = [0u8; PAGE];
     let end = list(&mut page, &gr, graph, &co, places, &text, day);
-    out(&page, end);
+    out(&rt, &page, end)
 }

@@ -11,6 +11,7 @@ use dimacs::{CoReply, GrReply};
 use files::{File, read_file};
 use pages::{PAGE, put};
 use rules::{Judged, Refusal};
+use std::rt::Files;
 use wording::put_place;
 
 // Why a file is of no use: it cannot be read, or it is refused.
@@ -138,12 +139,12 @@ fn is_graph(gr: &[u8], graph: File) -> bool
 }
 
 // What was read of `net.co`, which is opened only after `net.gr` was judged.
-pub fn read_places(gr: &[u8], graph: File, co: &mut [u8]) -> File
+pub fn read_places(rt: &impl Files, gr: &[u8], graph: File, co: &mut [u8]) -> File
     requires { Within (length gr.now) graph }
     ensures { Within (length co.new) result }
 {
     if is_graph(gr, graph) {
-        return read_file(b"net.co", co);
+        return read_file(rt, b"net.co", co);
     }
     File::NoFile
 }

@@ -19,6 +19,7 @@ use pages::PAGE;
 use replies::answers::put_written;
 use replies::words::put_unsaved;
 use saving::save_file;
+use std::rt::Files;
 use writing::WriteReply;
 
 // Writes the text of the lent rows into another row; whatever the bytes are.
@@ -64,6 +65,7 @@ pub fn write_row(
 
 // `save`, with a row of as many places as are lent of `text`.
 fn save_by(
+    rt: &impl Files,
     page: &mut [u8; PAGE],
     line: &[u8],
     format: Format,
@@ -82,7 +84,7 @@ fn save_by(
     let WriteReply::Written(k) = reply else {
         return put_written(page, reply);
     };
-    if save_file(after_word(after_word(line)), &text[..k]) {
+    if save_file(rt, after_word(after_word(line)), &text[..k]) {
         return put_written(page, reply);
     }
     put_unsaved(page)
@@ -90,6 +92,7 @@ fn save_by(
 
 // `save`: the text goes to the file that the line names.
 pub fn save(
+    rt: &impl Files,
     page: &mut [u8; PAGE],
     line: &[u8],
     format: Format,
@@ -107,6 +110,7 @@ pub fn save(
     let places = lent_at(lent, s);
     let mut text = [0u8; 40960];
     save_by(
+        rt,
         page,
         line,
         format,

@@ -3,31 +3,31 @@
 
 ghost use Rattle.std.specs.Prelude.{◌≤◌};
 
-use libc::STDOUT_FILENO;
 use pages::{PAGE, size};
+use std::io;
 
 // Writes the page up to an end.
-pub fn out(page: &[u8; PAGE], end: usize)
+pub fn out(rt: &impl Print, page: &[u8; PAGE], end: usize) -> io::Result<()>
     requires { end ≤ 368640 }
 {
     let whole = &page[..];
-    io::write_all(STDOUT_FILENO, &whole[0..end]);
+    rt.write_all(&whole[0..end])
 }
 
 // Writes a text as it stands.
-pub fn text(bytes: &[u8]) {
-    io::write_all(STDOUT_FILENO, bytes);
+pub fn text(rt: &impl Print, bytes: &[u8]) -> io::Result<()> {
+    rt.write_all(bytes)
 }
 
 // Writes a natural number in decimal.
-pub fn count(n: u32) {
-    io::print_decimal(STDOUT_FILENO, n as u64);
+pub fn count(rt: &impl Print, n: u32) -> io::Result<()> {
+    rt.print(n)
 }
 
 // Writes a whole number in decimal, with a minus where it is below 0.
-pub fn number(z: i32) {
+pub fn number(rt: &impl Print, z: i32) -> io::Result<()> {
     if z < 0 {
-        text(b"-");
+        text(rt, b"-")?;
     }
-    io::print_decimal(STDOUT_FILENO, size(z));
+    rt.print(size(z))
 }

@@ -20,6 +20,7 @@ use plans::reading::{graph, places};
 use plans::written::write_row;
 use replies::showing::show_row;
 use replies::words::{put_help, put_ok};
+use std::rt::Files;
 
 // Does what a request asks for.
 pub fn meet(
@@ -108,6 +109,7 @@ fn read_in(
 
 // Opens and reads the file that a line names.
 pub fn read(
+    rt: &impl Files,
     page: &mut [u8; PAGE],
     line: &[u8],
     reading: Reading,
@@ -122,7 +124,7 @@ pub fn read(
     ensures end_bound { result.end ≤ 1000 }
 {
     let mut text = [0u8; 65537];
-    let file = read_file(after_word(line), &mut text);
+    let file = read_file(rt, after_word(line), &mut text);
     read_in(
         page, reading, &text, file, sizes, lent, counts, numbers, bytes,
     )
