@@ -15,6 +15,6 @@ returns c =
     let start : c.shift-start.result ≡ shifted s.args.from = c.shift-start.ensures ∙ ap shifted (back s.args.from from) in
     let place : c.shift.result ≡ shifted s.args.z = c.shift.ensures ∙ ap shifted (back s.args.z z) in
     axis s.args.from s.args.to s.args.z less.result width.result s.requires from s.ranges.to.sfits z less.type_inv width.type_inv
-    (rw (start, place) at less.ensures)
+    (rw (start, place) at less.ensures.value)
     (rw (start, (let s = c in
-    c.shift-2.ensures ∙ ap shifted (back s.args.to s.ranges.to.sfits))) at width.ensures)
+    c.shift-2.ensures ∙ ap shifted (back s.args.to s.ranges.to.sfits))) at width.ensures.value)

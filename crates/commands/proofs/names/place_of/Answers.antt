@@ -1,6 +1,7 @@
 -- `commands::names::place_of` meets its contract.
-use Prim.Native.Nat.{◌-◌}
+use Prim.Native.Nat.{◌≤◌, ◌+◌, ◌-◌}
 use native.Mathlib.Omega.{arith}
+use lib.ListN.{length}
 use Rattle.scan.proofs.PieceLaws.{rest_long}
 use Rattle.commands.proofs.NameLaws.{place_here, place_on, place_end}
 use Rattle.commands.proofs.names.place_of.Goals as goal
@@ -15,7 +16,9 @@ returns-then-same_bytes c =
 
 pub loop-at-preserved : goal.loop-at-preserved
 loop-at-preserved c =
-    let l = (let l = rest_long c.args.names.now _ c.loop-at.at c.rest-left.ensures in omega (arith, l, c.first_at-e.ensures.1)) in
+    let l = (let ahead-here : c.loop-at.at + c.first_at-e.result ≤ length c.args.names.now =
+    let l = rest_long c.args.names.now _ c.loop-at.at c.rest-left.ensures in omega (arith, l, c.first_at-e.ensures.1)
+    in ahead-here) in
     let f = c in
     let t = f in
     let same = rw c.same_bytes.ensures at c.if-same_bytes.false in

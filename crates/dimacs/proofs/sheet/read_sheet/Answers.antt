@@ -6,7 +6,7 @@ use Rattle.dimacs.specs.Texts.{next}
 use Rattle.dimacs.specs.declared.format.Rules.{Rules}
 use Rattle.dimacs.proofs.Fairness.{fair_of}
 use Rattle.dimacs.proofs.WhichField.{short_line}
-use Rattle.dimacs.proofs.Reading.{going_start, line_out, line_kept, line_problem, data_low, data_room, data_place, line_data, text_end, judged_out}
+use Rattle.dimacs.proofs.Reading.{Turn, going_start, line_out, line_kept, line_problem, data_low, data_room, data_place, line_data, text_end, judged_out}
 use borrow.Author.Rules.{rules}
 use Rattle.dimacs.proofs.sheet.read_sheet.Goals as goal
 
@@ -23,7 +23,9 @@ judge-judged-requires c =
 
 pub returns-in_default : goal.returns-in_default
 returns-in_default c =
-    judged_out _ _ _ c.in_default.is ∙ sym (line_out _ _ _ _ _ _ _ _ _ _ _ (record {
+    judged_out _ _ _ c.in_default.is ∙ sym (line_out _ _ _ _ _ _ _ _ _ _ _ ((let turn-here : Turn c.args.format c.args.text.now c.loop-at.head c.loop-at.taken c.loop-at.lines c.loop-at.at c.loop-at.line
+    c.first_at-e.result c.line_of-l.result c.rules_for-rules.result c.judge-judged.result =
+    record {
       ok = c.requires.1;
       going = c.loop-at.invariant;
       more = c.loop-at-test.true;
@@ -36,11 +38,14 @@ returns-in_default c =
       held_line_lem = c.line_of-l.ensures;
       rules = c.rules_for-rules.ensures;
       judgement = c.judge-judged.ensures;
-    }) _ c.in_default.is)
+    }
+    in turn-here)) _ c.in_default.is)
 
 pub place_of-i-requires : goal.place_of-i-requires
 place_of-i-requires c =
-    data_low _ _ _ _ _ _ _ _ _ _ _ (record {
+    data_low _ _ _ _ _ _ _ _ _ _ _ ((let turn-here : Turn c.args.format c.args.text.now c.loop-at.head c.loop-at.taken c.loop-at.lines c.loop-at.at c.loop-at.line
+    c.first_at-e.result c.line_of-l.result c.rules_for-rules.result c.judge-judged.result =
+    record {
       ok = c.requires.1;
       going = c.loop-at.invariant;
       more = c.loop-at-test.true;
@@ -53,11 +58,14 @@ place_of-i-requires c =
       held_line_lem = c.line_of-l.ensures;
       rules = c.rules_for-rules.ensures;
       judgement = c.judge-judged.ensures;
-    }) c.in-Fine.is _ c.in-Data.is
+    }
+    in turn-here)) c.in-Fine.is _ c.in-Data.is
 
 pub bounds-taken-i : goal.bounds-taken-i
 bounds-taken-i c =
-    data_place _ _ _ _ _ _ _ _ _ _ _ (record {
+    data_place _ _ _ _ _ _ _ _ _ _ _ ((let turn-here : Turn c.args.format c.args.text.now c.loop-at.head c.loop-at.taken c.loop-at.lines c.loop-at.at c.loop-at.line
+    c.first_at-e.result c.line_of-l.result c.rules_for-rules.result c.judge-judged.result =
+    record {
       ok = c.requires.1;
       going = c.loop-at.invariant;
       more = c.loop-at-test.true;
@@ -70,11 +78,14 @@ bounds-taken-i c =
       held_line_lem = c.line_of-l.ensures;
       rules = c.rules_for-rules.ensures;
       judgement = c.judge-judged.ensures;
-    }) c.in-Fine.is _ _ c.in-Data.is c.place_of-i.ensures
+    }
+    in turn-here)) c.in-Fine.is _ _ c.in-Data.is c.place_of-i.ensures
 
 pub offset_bounds-lines-i : goal.offset_bounds-lines-i
 offset_bounds-lines-i c =
-    let low = data_place _ _ _ _ _ _ _ _ _ _ _ (record {
+    let low = data_place _ _ _ _ _ _ _ _ _ _ _ ((let turn-here : Turn c.args.format c.args.text.now c.loop-at.head c.loop-at.taken c.loop-at.lines c.loop-at.at c.loop-at.line
+    c.first_at-e.result c.line_of-l.result c.rules_for-rules.result c.judge-judged.result =
+    record {
       ok = c.requires.1;
       going = c.loop-at.invariant;
       more = c.loop-at-test.true;
@@ -87,11 +98,14 @@ offset_bounds-lines-i c =
       held_line_lem = c.line_of-l.ensures;
       rules = c.rules_for-rules.ensures;
       judgement = c.judge-judged.ensures;
-    }) c.in-Fine.is _ _ c.in-Data.is c.place_of-i.ensures in omega arith
+    }
+    in turn-here)) c.in-Fine.is _ _ c.in-Data.is c.place_of-i.ensures in omega arith
 
 pub bounds-lines-i : goal.bounds-lines-i
 bounds-lines-i c =
-    data_place _ _ _ _ _ _ _ _ _ _ _ (record {
+    data_place _ _ _ _ _ _ _ _ _ _ _ ((let turn-here : Turn c.args.format c.args.text.now c.loop-at.head c.loop-at.taken c.loop-at.lines c.loop-at.at c.loop-at.line
+    c.first_at-e.result c.line_of-l.result c.rules_for-rules.result c.judge-judged.result =
+    record {
       ok = c.requires.1;
       going = c.loop-at.invariant;
       more = c.loop-at-test.true;
@@ -104,11 +118,14 @@ bounds-lines-i c =
       held_line_lem = c.line_of-l.ensures;
       rules = c.rules_for-rules.ensures;
       judgement = c.judge-judged.ensures;
-    }) c.in-Fine.is _ _ c.in-Data.is c.place_of-i.ensures
+    }
+    in turn-here)) c.in-Fine.is _ _ c.in-Data.is c.place_of-i.ensures
 
 pub overflow_add-head : goal.overflow_add-head
 overflow_add-head c =
-    let room = data_room _ _ _ _ _ _ _ _ _ _ _ (record {
+    let room = data_room _ _ _ _ _ _ _ _ _ _ _ ((let turn-here : Turn c.args.format c.args.text.now c.loop-at.head c.loop-at.taken c.loop-at.lines c.loop-at.at c.loop-at.line
+    c.first_at-e.result c.line_of-l.result c.rules_for-rules.result c.judge-judged.result =
+    record {
       ok = c.requires.1;
       going = c.loop-at.invariant;
       more = c.loop-at-test.true;
@@ -121,11 +138,14 @@ overflow_add-head c =
       held_line_lem = c.line_of-l.ensures;
       rules = c.rules_for-rules.ensures;
       judgement = c.judge-judged.ensures;
-    }) c.in-Fine.is _ c.in-Data.is in omega arith
+    }
+    in turn-here)) c.in-Fine.is _ c.in-Data.is in omega arith
 
 pub loop-at-preserved-in-Problem : goal.loop-at-preserved-in-Problem
 loop-at-preserved-in-Problem c =
-    line_problem _ _ _ _ _ _ _ _ _ _ _ (record {
+    line_problem _ _ _ _ _ _ _ _ _ _ _ ((let turn-here : Turn c.args.format c.args.text.now c.loop-at.head c.loop-at.taken c.loop-at.lines c.loop-at.at c.loop-at.line
+    c.first_at-e.result c.line_of-l.result c.rules_for-rules.result c.judge-judged.result =
+    record {
       ok = c.requires.1;
       going = c.loop-at.invariant;
       more = c.loop-at-test.true;
@@ -138,11 +158,14 @@ loop-at-preserved-in-Problem c =
       held_line_lem = c.line_of-l.ensures;
       rules = c.rules_for-rules.ensures;
       judgement = c.judge-judged.ensures;
-    }) c.in-Fine.is _ c.in-Problem.is
+    }
+    in turn-here)) c.in-Fine.is _ c.in-Problem.is
 
 pub loop-at-preserved-in-Data : goal.loop-at-preserved-in-Data
 loop-at-preserved-in-Data c =
-    line_data _ _ _ _ _ _ _ _ _ _ _ (record {
+    line_data _ _ _ _ _ _ _ _ _ _ _ ((let turn-here : Turn c.args.format c.args.text.now c.loop-at.head c.loop-at.taken c.loop-at.lines c.loop-at.at c.loop-at.line
+    c.first_at-e.result c.line_of-l.result c.rules_for-rules.result c.judge-judged.result =
+    record {
       ok = c.requires.1;
       going = c.loop-at.invariant;
       more = c.loop-at-test.true;
@@ -155,12 +178,15 @@ loop-at-preserved-in-Data c =
       held_line_lem = c.line_of-l.ensures;
       rules = c.rules_for-rules.ensures;
       judgement = c.judge-judged.ensures;
-    }) c.in-Fine.is _ _ c.in-Data.is c.place_of-i.ensures
+    }
+    in turn-here)) c.in-Fine.is _ _ c.in-Data.is c.place_of-i.ensures
 
 pub loop-at-preserved-in-Comment : goal.loop-at-preserved-in-Comment
 unfolding next
 loop-at-preserved-in-Comment c =
-    line_kept _ _ _ _ _ _ _ _ _ _ _ (record {
+    line_kept _ _ _ _ _ _ _ _ _ _ _ ((let turn-here : Turn c.args.format c.args.text.now c.loop-at.head c.loop-at.taken c.loop-at.lines c.loop-at.at c.loop-at.line
+    c.first_at-e.result c.line_of-l.result c.rules_for-rules.result c.judge-judged.result =
+    record {
       ok = c.requires.1;
       going = c.loop-at.invariant;
       more = c.loop-at-test.true;
@@ -173,12 +199,15 @@ loop-at-preserved-in-Comment c =
       held_line_lem = c.line_of-l.ensures;
       rules = c.rules_for-rules.ensures;
       judgement = c.judge-judged.ensures;
-    }) c.in-Fine.is (ap (next _ _) c.in-Comment.is)
+    }
+    in turn-here)) c.in-Fine.is (ap (next _ _) c.in-Comment.is)
 
 pub loop-at-preserved : goal.loop-at-preserved
 unfolding next
 loop-at-preserved c =
-    line_kept _ _ _ _ _ _ _ _ _ _ _ (record {
+    line_kept _ _ _ _ _ _ _ _ _ _ _ ((let turn-here : Turn c.args.format c.args.text.now c.loop-at.head c.loop-at.taken c.loop-at.lines c.loop-at.at c.loop-at.line
+    c.first_at-e.result c.line_of-l.result c.rules_for-rules.result c.judge-judged.result =
+    record {
       ok = c.requires.1;
       going = c.loop-at.invariant;
       more = c.loop-at-test.true;
@@ -191,7 +220,8 @@ loop-at-preserved c =
       held_line_lem = c.line_of-l.ensures;
       rules = c.rules_for-rules.ensures;
       judgement = c.judge-judged.ensures;
-    }) c.in-Fine.is (ap (next _ _) c.in-Faulty.is)
+    }
+    in turn-here)) c.in-Fine.is (ap (next _ _) c.in-Faulty.is)
 
 pub returns : goal.returns
 returns c = text_end _ _ _ _ _ _ c.loop-at.invariant c.loop-at-test.false (c.judge_end.ensures ∙ ap (λ (R : Rules). ended R c.loop-at.head c.loop-at.line) c.rules_for.ensures)
