@@ -1,0 +1,29 @@
+-- `commands::arguments::update_of` meets its contract.
+use mathlib.Core.Path.{sym, ap, ◌∙◌}
+use Rattle.scan.specs.Pieces.{first_field}
+use Rattle.commands.specs.Words.{after_word}
+use Rattle.commands.specs.Commands.{byte, asked}
+use Rattle.commands.proofs.NumberLaws.{byte_small}
+use Rattle.commands.proofs.WordLaws.{word_third}
+use Rattle.commands.proofs.CommandLaws.{read_is, read_not, pair_are, pair_not}
+use borrow.Author.Rules.{rules}
+use Rattle.commands.proofs.arguments.update_of.Goals as goal
+
+pub overflow_cast-result : goal.overflow_cast-result
+overflow_cast-result c = let h = byte_small _ _ _ c.read_byte-byte.ensures c.in-Is.is in search rules
+
+pub returns-in-Not : goal.returns-in-Not
+unfolding asked
+returns-in-Not c = sym (pair_not _ _ _ _ c.read_pair-pair.ensures c.in-Not.is)
+
+pub returns-in-Not-byte : goal.returns-in-Not-byte
+unfolding asked
+returns-in-Not-byte c =
+    sym (pair_are _ _ _ _ _ c.read_pair-pair.ensures c.in-Are.is ∙ read_not _ _ _ _ (let here = c.first_word.ensures ∙ ap first_field (c.after_word.ensures ∙ ap after_word c.after_word-after_arc.ensures) ∙ sym (word_third c.args.words.now) in
+    c.read_byte-byte.ensures ∙ ap byte here) c.in-Not-byte.is)
+
+pub returns-in-Is : goal.returns-in-Is
+unfolding asked
+returns-in-Is c =
+    sym (pair_are _ _ _ _ _ c.read_pair-pair.ensures c.in-Are.is ∙ read_is _ _ _ _ (let here = c.first_word.ensures ∙ ap first_field (c.after_word.ensures ∙ ap after_word c.after_word-after_arc.ensures) ∙ sym (word_third c.args.words.now) in
+    c.read_byte-byte.ensures ∙ ap byte here) c.in-Is.is)

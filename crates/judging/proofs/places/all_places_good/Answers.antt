@@ -1,0 +1,17 @@
+-- `judging::places::all_places_good` meets its contract. The loop's invariant: good tells whether the nodes up to i are.
+use Prim.Native.Nat.{◌-◌}
+use mathlib.Core.Path.{sym, ap, ◌∙◌}
+use native.Mathlib.Omega.{arith}
+use Rattle.rules.specs.Judging.{is_fine}
+use Rattle.rules.proofs.JudgingLaws.{each_none, each_joined}
+use Rattle.judging.proofs.NextLaws.{place-next}
+use Rattle.judging.proofs.places.all_places_good.Goals as goal
+
+pub loop-i-init : goal.loop-i-init
+loop-i-init c = (omega arith, sym (ap is_fine (each_none _ _)))
+
+pub loop-i-preserved : goal.loop-i-preserved
+loop-i-preserved c =
+    let a = c.args in
+    let l = c.loop-i in
+    (omega arith, each_joined _ _ l.i l.invariant.1 (c.good_place-good.ensures ∙ place-next a.x.now a.y.now l.i))

@@ -1,0 +1,6 @@
+-- `lending::rows::give_bytes` meets its contract.
+use Rattle.lending.proofs.PartLaws.{put_is}
+use Rattle.lending.proofs.rows.give_bytes.Goals as goal
+
+pub returns : goal.returns
+returns c = put_is _ c.args.row c.stretch-s.ensures.0 c.stretch-s.ensures.1 _ _ _ c.copy_bytes.ensures

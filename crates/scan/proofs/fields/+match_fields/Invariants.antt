@@ -1,0 +1,6 @@
+-- Each call has a field of the form less to read.
+use Rattle.std.proofs.Common.{length}
+use Rattle.scan.proofs.fields.+match_fields.Given as goal
+
+abbrev pub decreases-match_fields : goal.decreases-match_fields
+decreases-match_fields l = length l.form.now

@@ -1,0 +1,59 @@
+-- `settling::relax::settle_one` meets its contract. The loop's invariant: the labels are those after the arcs 1..j, and j is
+use Prim.Native.Nat.{◌+◌, ◌-◌, ◌≤◌}
+use native.Mathlib.Omega.{arith}
+use mathlib.Core.Path.{◌≡◌, refl, sym, ◌∙◌}
+use mathlib.Core.Logic.{⊎_elim}
+use lib.ListN.{get_or}
+use Rattle.walks.specs.Rows.{rows}
+use Rattle.frontier.specs.Chain.{From}
+use Rattle.settling.specs.Labels.{marked}
+use Rattle.passing.specs.Asking.{keeps}
+use Rattle.settling.proofs.SettleSteps.{relaxed_none, settle_all}
+use Rattle.settling.proofs.TreeFollows.{front_marked}
+use Rattle.settling.proofs.AlongChains.{relaxed_from, turn_shut, turn_open}
+use Rattle.settling.proofs.relax.settle_one.Goals as goal
+
+pub loop-j-init : goal.loop-j-init
+unfolding marked
+loop-j-init c =
+    let a = c.args in
+    let sound = c.requires.0.sound in
+    let ready = c.requires.2 in
+    let R = rows a.tails.now a.heads.now a.weights.now a.closures.now in
+    let K = keeps a.task.tests a.closures.now a.boxes.now a.masks.now in
+    let high : a.u ≤ 512 = omega (arith, ready.high, sound.nodes_high) in
+    let f = c.requires.1.firsts a.u ready.low high in (
+      f.high,
+      f.holds,
+      record {
+        same = sym (relaxed_from R K a.u _ _ _ f ∙ relaxed_none R K a.u _ _ _);
+        front = front_marked c.requires.3 a.u ready.low high _ c.put.ensures refl;
+      },
+    )
+
+pub loop-j-preserved : goal.loop-j-preserved
+loop-j-preserved c =
+    let a = c.args in
+    let R = rows a.tails.now a.heads.now a.weights.now a.closures.now in
+    let K = keeps a.task.tests a.closures.now a.boxes.now a.masks.now in
+    let i = c.loop-j in
+    let f = (let following-here : let a = c.args in
+    let j = c.loop-j.j in From a.task.m a.tails.now a.u (j + 1) (get_or a.next.now j 0) =
+    rw (c.loop-j.invariant.1 c.loop-j-test.true) at (c.requires.1.nexts c.loop-j.j c.loop-j-test.true)
+    in following-here) in
+    let out = i.invariant.1 c.loop-j-test.true in
+    let asked = c.passes.ensures in (
+      f.high,
+      f.holds,
+      ⊎_elim
+          (λ w. rw (w.8, w.9, w.10) (record { same = turn_open R K a.u _ _ _ i.j i.invariant.2.same f out asked w.0.taken w.7.ensures.same; front = w.7.ensures.front }))
+          (λ w. rw (w.1, w.2, w.3) (record { same = turn_shut R K a.u _ _ _ i.j i.invariant.2.same f out asked w.0.left; front = i.invariant.2.front }))
+          c.if-passes.branch,
+    )
+
+pub returns : goal.returns
+unfolding marked
+returns c =
+    let i = c.loop-j in
+    let e : i.j ≡ c.args.task.m = omega arith in
+    record { same = rw e at i.invariant.2.same ∙ sym (settle_all _ _ _ _ _); front = i.invariant.2.front }
