@@ -200,7 +200,7 @@ loop-at-preserved-in-Comment c =
       rules = c.rules_for-rules.ensures;
       judgement = c.judge-judged.ensures;
     }
-    in turn-here)) c.in-Fine.is (ap (next _ _) c.in-Comment.is)
+    in turn-here)) c.in-Fine.is (ap (next c.rules_for-rules.result _) c.in-Comment.is)
 
 pub loop-at-preserved : goal.loop-at-preserved
 unfolding next
@@ -221,7 +221,7 @@ loop-at-preserved c =
       rules = c.rules_for-rules.ensures;
       judgement = c.judge-judged.ensures;
     }
-    in turn-here)) c.in-Fine.is (ap (next _ _) c.in-Faulty.is)
+    in turn-here)) c.in-Fine.is (ap (next c.rules_for-rules.result _) c.in-Faulty.is)
 
 pub returns : goal.returns
 returns c = text_end _ _ _ _ _ _ c.loop-at.invariant c.loop-at-test.false (c.judge_end.ensures ∙ ap (λ (R : Rules). ended R c.loop-at.head c.loop-at.line) c.rules_for.ensures)
