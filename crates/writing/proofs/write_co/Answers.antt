@@ -12,8 +12,8 @@ use Rattle.writing.proofs.write_co.Goals as goal
 pub put_places-end-requires-clause-n_in_bounds : goal.put_places-end-requires-clause-n_in_bounds
 put_places-end-requires-clause-n_in_bounds c = let a = c.args in let fine = sym c.judge_coordinates-judged.ensures ∙ c.in_default.is in let f = co_fine a.n a.x.now a.y.now fine in (f.0, f.1)
 
-pub put_places-end-requires-clause-y_len_bound : goal.put_places-end-requires-clause-y_len_bound
-put_places-end-requires-clause-y_len_bound c = let a = c.args in let fine = sym c.judge_coordinates-judged.ensures ∙ c.in_default.is in let f = co_fine a.n a.x.now a.y.now fine in f.2
+pub put_places-end-requires-clause-text_fits : goal.put_places-end-requires-clause-text_fits
+put_places-end-requires-clause-text_fits c = let a = c.args in let fine = sym c.judge_coordinates-judged.ensures ∙ c.in_default.is in let f = co_fine a.n a.x.now a.y.now fine in f.2
 
 pub slice_bounds-page-end : goal.slice_bounds-page-end
 slice_bounds-page-end c = let a = c.args in let fine = sym c.judge_coordinates-judged.ensures ∙ c.in_default.is in let f = co_fine a.n a.x.now a.y.now fine in let long = page_long _ _ _ _ c.put_places-end.ensures ∙ length-replicate {A = ℕ} 36945 0 in omega (arith, long, f.2, c.put_places-end.ensures.end)

@@ -14,8 +14,8 @@ use Rattle.writing.proofs.write_gr.Goals as goal
 pub put_network-end-requires-clause-m_in_bounds : goal.put_network-end-requires-clause-m_in_bounds
 put_network-end-requires-clause-m_in_bounds c = let a = c.args in let R = open_rows a.tails.now a.heads.now a.weights.now in let fine = sym c.judge_arc_rows-judged.ensures ∙ c.in_default.is in let f = gr_fine a.n a.m R fine in (f.0, f.1, f.2)
 
-pub put_network-end-requires-clause-weights_len_bound : goal.put_network-end-requires-clause-weights_len_bound
-put_network-end-requires-clause-weights_len_bound c = let a = c.args in let R = open_rows a.tails.now a.heads.now a.weights.now in let fine = sym c.judge_arc_rows-judged.ensures ∙ c.in_default.is in let f = gr_fine a.n a.m R fine in f.3
+pub put_network-end-requires-clause-text_fits : goal.put_network-end-requires-clause-text_fits
+put_network-end-requires-clause-text_fits c = let a = c.args in let R = open_rows a.tails.now a.heads.now a.weights.now in let fine = sym c.judge_arc_rows-judged.ensures ∙ c.in_default.is in let f = gr_fine a.n a.m R fine in f.3
 
 pub slice_bounds-page-end : goal.slice_bounds-page-end
 slice_bounds-page-end c = let a = c.args in let R = open_rows a.tails.now a.heads.now a.weights.now in let fine = sym c.judge_arc_rows-judged.ensures ∙ c.in_default.is in let f = gr_fine a.n a.m R fine in let long = page_long _ _ _ _ c.put_network-end.ensures ∙ length-replicate {A = ℕ} 36945 0 in omega (arith, long, f.3, c.put_network-end.ensures.end)

@@ -14,7 +14,7 @@ pub put_arc_line-at-requires : goal.put_arc_line-at-requires
 unfolding gr_text
 put_arc_line-at-requires c =
     let a = c.args in let f = arc_text (open_rows a.tails.now a.heads.now a.weights.now) in let loop = c.loop-i in
-    lines_room f _ loop.i a.m _ loop.at 36878 loop.invariant.0 c.put_graph_line-at.ensures.end loop.invariant.1.end c.requires.1
+    lines_room f _ loop.i a.m _ loop.at 36878 loop.invariant.0 c.put_graph_line-at.ensures.end loop.invariant.1.end c.requires.text_fits
 
 pub loop-i-preserved : goal.loop-i-preserved
 loop-i-preserved c =
