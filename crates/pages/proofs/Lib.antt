@@ -1,4 +1,3 @@
-pub mod Signed
 pub mod PageLaws
 pub mod DecimalLaws
 pub mod SpacedLaws

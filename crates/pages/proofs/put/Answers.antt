@@ -1,5 +1,4 @@
 -- `pages::put` meets its contract.
-use Prim.Native.Nat.{◌-◌}
 use mathlib.Core.Path.{refl}
 use native.Mathlib.Nat.{add-zero}
 use Rattle.pages.proofs.PageLaws.{puts_none, puts_more}

@@ -12,9 +12,11 @@ use Rattle.pages.proofs.put_number.Goals as goal
 pub returns-then-z-lt0-clause-puts : goal.returns-then-z-lt0-clause-puts
 returns-then-z-lt0-clause-puts c =
     let plain = to_z-of_z {w = w32} c.ranges.z in
-    let sized = ap (λ (m : ℕ). 45 ∷ decimal m) (rw plain at c.size.ensures) in puts_same (sized ∙ whole_minus c.args.z (rw plain at c.if-z-lt0.true)) (puts_both c.put-after.ensures c.put_decimal.ensures.0)
+    let sized = ap (λ (m : ℕ). 45 ∷ decimal m) (rw plain at c.size.ensures) in
+    puts_same (sized ∙ whole_minus c.args.z (rw plain at c.if-z-lt0.true)) (puts_both c.put-after.ensures c.put_decimal.ensures.puts)
 
 pub returns-clause-puts : goal.returns-clause-puts
 returns-clause-puts c =
     let plain = to_z-of_z {w = w32} c.ranges.z in
-    let sized = ap decimal (rw plain at c.size-2.ensures) in puts_same (sized ∙ whole_plus c.args.z (rw plain at c.if-z-lt0.false)) c.put_decimal-2.ensures.0
+    let sized = ap decimal (rw plain at c.size-2.ensures) in
+    puts_same (sized ∙ whole_plus c.args.z (rw plain at c.if-z-lt0.false)) c.put_decimal-2.ensures.puts

@@ -1,5 +1,4 @@
 -- `pages::rows::put_counts` meets its contract.
-use Prim.Native.Nat.{◌-◌}
 use mathlib.Core.Path.{refl}
 use native.Mathlib.Omega.{arith}
 use Rattle.scan.specs.Decimal.{decimal}
@@ -14,4 +13,4 @@ unfolding spaced
 loop-i-init c = (search rules, omega arith, refl, puts_none)
 
 pub loop-i-preserved : goal.loop-i-preserved
-loop-i-preserved c = (omega arith, omega arith, search rules, puts_next decimal _ 0 _ c.loop-i-test.true c.loop-i.invariant.3 c.put_after-at.ensures.0)
+loop-i-preserved c = (omega arith, omega arith, search rules, puts_next decimal _ 0 _ c.loop-i-test.true c.loop-i.invariant.3 c.put_after-at.ensures.puts)
