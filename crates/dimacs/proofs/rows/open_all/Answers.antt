@@ -1,4 +1,3 @@
-use Prim.Native.Nat.{◌-◌}
 use Rattle.dimacs.proofs.RowLaws.{open_more, open_end}
 use Rattle.dimacs.proofs.rows.open_all.Goals as goal
 

@@ -1,4 +1,3 @@
-use Prim.Native.Nat.{◌-◌}
 use mathlib.Core.Path.{◌≡◌}
 use native.Mathlib.Omega.{arith}
 use lib.ListN.{length}
@@ -9,5 +8,5 @@ use Rattle.dimacs.proofs.rows.put_naturals.Goals as goal
 pub loop-i-preserved : goal.loop-i-preserved
 loop-i-preserved c =
     let args = c.args in
-    let long : length args.t1 ≡ 2048 = search rules in
-    fill_more _ args.t1 args.m args.row.now _ _ c.loop-i.invariant _ _ (omega arith) (omega arith) c.loop-i-test.true c.natural.ensures
+    let long : length args.lines ≡ 2048 = search rules in
+    fill_more _ args.lines args.m args.row.now _ _ c.loop-i.invariant _ _ (omega arith) (omega arith) c.loop-i-test.true c.natural.ensures

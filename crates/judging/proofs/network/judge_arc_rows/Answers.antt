@@ -3,7 +3,7 @@ use mathlib.Core.Path.{◌≡◌, sym, ◌∙◌}
 use mathlib.Core.Bool.{Bool, ◌&&◌}
 use Rattle.rules.proofs.JudgingLaws.{refusal_decides, rest_decides, nothing_follows}
 use Rattle.rules.specs.declared.Judged.{Judged}
-use Rattle.judging.specs.Order.{arc_rows_long, lengths, arcs_judged}
+use Rattle.judging.specs.Order.{lengths, arcs_judged}
 use Rattle.judging.proofs.network.judge_arc_rows.Goals as goal
 
 asked : {j : Judged} {long arcs : Bool} (others : Bool) → j ≡ lengths (long && others) → long ≡ arcs → j ≡ lengths (arcs && others)
