@@ -7,8 +7,7 @@ use lib.IntN.{ℤ}
 use Rattle.rules.specs.Paper.{Reply}
 use Rattle.walks.specs.Walk.{Net}
 use Rattle.walks.specs.Rows.{Rows}
-use Rattle.walks.specs.Through.{Consistent}
-use Rattle.walks.specs.Checking.{Misses, FirstMissed}
+use Rattle.walks.specs.Checking.{Misses}
 use Rattle.passing.specs.Signs.{signs, boxes_alone, box_signs}
 use Rattle.passing.specs.Passing.{Keeps}
 use Rattle.judging.specs.Order.{placed_by, shaped_by, build_judged, check_judged}

@@ -1,5 +1,5 @@
 -- `drawing::compare::find_miss` meets its contract. The loop's invariant: the lowest arc and node among the nodes up to t.
-use Prim.Native.Nat.{ℕ, ◌+◌, ◌-◌}
+use Prim.Native.Nat.{ℕ, ◌+◌}
 use mathlib.Core.Path.{refl, ◌∙◌}
 use native.Mathlib.Omega.{arith}
 use lib.ListN.{length-replicate}

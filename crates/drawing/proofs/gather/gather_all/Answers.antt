@@ -1,5 +1,5 @@
 -- `drawing::gather::gather_all` meets its contract. The loop's invariant: the nodes up to t are added to what is asked.
-use Prim.Native.Nat.{ℕ, ◌-◌}
+use Prim.Native.Nat.{ℕ}
 use mathlib.Core.Path.{refl, ◌∙◌}
 use mathlib.Core.Bool.{Bool, false}
 use native.Mathlib.Omega.{arith}

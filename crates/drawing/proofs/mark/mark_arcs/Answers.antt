@@ -1,5 +1,4 @@
 -- `drawing::mark::mark_arcs` meets its contract. The loop's invariant: the arcs up to e are marked.
-use Prim.Native.Nat.{◌-◌}
 use native.Mathlib.Omega.{arith}
 use Rattle.walks.specs.Rows.{rows}
 use Rattle.walks.proofs.RowsLaws.{arc_at}
