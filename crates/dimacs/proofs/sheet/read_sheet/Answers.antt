@@ -13,12 +13,11 @@ pub loop-at-init : goal.loop-at-init
 loop-at-init c = going_start _ _ _ _ c.no_numbers-lines.ensures c.no_numbers.ensures
 
 pub judge-judged-requires : goal.judge-judged-requires
-judge-judged-requires c =
-    let d = c in (
-      rw c.rules_for-rules.ensures (fair_of d.args.format d.requires.1 _ c.loop-at.invariant.nodes),
-      short_line d.args.format d.args.text.now c.rest-t.result.now c.front.result.now c.loop-at.at c.first_at-e.result _
-          d.requires.0 c.rest-t.ensures c.first_at-e.ensures.1 c.front.ensures c.line_of-l.ensures,
-    )
+judge-judged-requires c = (
+  rw c.rules_for-rules.ensures (fair_of c.args.format c.requires.1 _ c.loop-at.invariant.nodes),
+  short_line c.args.format c.args.text.now c.rest-t.result.now c.front.result.now c.loop-at.at c.first_at-e.result _
+      c.requires.0 c.rest-t.ensures c.first_at-e.ensures.1 c.front.ensures c.line_of-l.ensures,
+)
 
 -- a line that was judged, at any goal after it
 turn : (c : After-judge-judged)
