@@ -1,4 +1,4 @@
--- `judging::boxes::judge_boxes` meets its contract. The loop's invariant: the arcs up to at are good.
+-- `judging::boxes::judge_boxes` meets its contract.
 use mathlib.Core.Path.{sym, ◌∙◌}
 use native.Mathlib.Omega.{arith}
 use Rattle.rules.proofs.JudgingLaws.{each_none, each_more, each_first}

@@ -1,4 +1,4 @@
--- `judging::modules::judge_modules` meets its contract. The loop's invariant: the nodes up to at are good.
+-- `judging::modules::judge_modules` meets its contract.
 use mathlib.Core.Path.{sym, ◌∙◌}
 use native.Mathlib.Omega.{arith}
 use Rattle.rules.proofs.JudgingLaws.{each_none, each_more, each_first}

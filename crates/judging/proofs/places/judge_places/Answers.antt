@@ -1,4 +1,4 @@
--- `judging::places::judge_places` meets its contract. The loop's invariant: the nodes up to at are good.
+-- `judging::places::judge_places` meets its contract.
 use mathlib.Core.Path.{sym, ◌∙◌}
 use native.Mathlib.Omega.{arith}
 use Rattle.rules.proofs.JudgingLaws.{each_none, each_more, each_first}

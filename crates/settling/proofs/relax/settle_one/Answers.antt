@@ -1,4 +1,4 @@
--- `settling::relax::settle_one` meets its contract. The loop's invariant: the labels are those after the arcs 1..j, and j is
+-- `settling::relax::settle_one` meets its contract.
 use Prim.Native.Nat.{◌+◌, ◌≤◌}
 use native.Mathlib.Omega.{arith}
 use mathlib.Core.Path.{◌≡◌, refl, sym, ◌∙◌}

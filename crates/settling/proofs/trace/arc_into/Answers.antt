@@ -1,4 +1,4 @@
--- `settling::trace::arc_into` meets its contract. The loop's invariant: the look from place j on is the whole look, and j is
+-- `settling::trace::arc_into` meets its contract.
 use Prim.Native.Nat.{◌+◌}
 use mathlib.Core.Path.{sym, ◌∙◌}
 use mathlib.Core.List.{[]}

@@ -1,4 +1,4 @@
--- `settling::trace::trace` meets its contract. The loop's invariant: the rest of the trace gives the whole route.
+-- `settling::trace::trace` meets its contract.
 use Prim.Native.Nat.{ℕ, ◌+◌, ◌-◌}
 use native.Mathlib.Omega.{arith}
 use mathlib.Core.Path.{◌≡◌, refl, sym, ◌∙◌}
