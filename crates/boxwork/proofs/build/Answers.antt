@@ -29,5 +29,5 @@ returns c =
     let l = build_fine _ _ _ _ _ fine in
     let g = c.gather_all.ensures in
     Builds.built fine
-    (boxes_built_lem l.sound (λ h. (l.places h).places) c.empty_boxes.ensures g.drawn_if)
-    (masks_built_lem l.sound (λ h. (l.modules h).numbers) c.empty_masks.ensures g.drawn_if_2)
+    (boxes_built_lem l.sound (λ h. (l.places h).places) c.empty_boxes.ensures g.boxes_drawn)
+    (masks_built_lem l.sound (λ h. (l.modules h).numbers) c.empty_masks.ensures g.masks_drawn)

@@ -54,4 +54,4 @@ returns c =
     let wrote = c.set_arc.ensures in
     updated_says _ (rows a.tails.now a.heads.now a.weights.now a.closures.now) a.arc a.weight a.closure (sym alone ∙ c.in-Fine.is)
     (rw (wrote.weights_after, wrote.closures_after) refl)
-    (c.gather_all.ensures.drawn_if.drawn refl)
+    (c.gather_all.ensures.boxes_drawn.drawn refl)

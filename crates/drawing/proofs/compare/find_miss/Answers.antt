@@ -1,4 +1,4 @@
--- `drawing::compare::find_miss` meets its contract. The loop's invariant: the lowest arc and node among the nodes up to t.
+-- `drawing::compare::find_miss` meets its contract.
 use Prim.Native.Nat.{ℕ, ◌+◌}
 use mathlib.Core.Path.{refl, ◌∙◌}
 use native.Mathlib.Omega.{arith}
