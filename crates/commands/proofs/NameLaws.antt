@@ -2,7 +2,7 @@
 use mathlib.Core.Path.{◌≡◌, sym, ap, ◌∙◌}
 use mathlib.Core.List.{List}
 use mathlib.Core.Bool.{true, false}
-use Prim.Native.Nat.{ℕ, suc, ◌+◌, ◌<◌, ◌≤◌}
+use Prim.Native.Nat.{ℕ, zero, suc, ◌+◌, ◌<◌, ◌≤◌}
 use native.Mathlib.Omega.{arith}
 use lib.ListN.{length, take, drop, get_or, get_or-eq_default}
 use Rattle.scan.specs.Pieces.{first_at, same_bytes}
@@ -26,6 +26,15 @@ place_end s n at h = rw (words_end s at h)
 -- the thing in the place that a name has
 pub named : {A : Type 0} (things : List A) (none : A) {k p n : ℕ} → k ≡ p → k ≡ n → get_or things n none ≡ get_or things p none
 named things none e f = ap (λ (i : ℕ). get_or things i none) (sym f ∙ e)
+
+-- a number that is none of those below n
+abbrev pub NoneBelow : ℕ → ℕ → Type 0
+NoneBelow zero k = Unit {0}
+NoneBelow (suc n) k = NoneBelow n k × (k ≡ n → ⊥)
+
+none_below : (n k : ℕ) → NoneBelow n k → n ≤ k
+none_below zero k h = omega arith
+none_below (suc n) k h = let l = none_below n k h.0 in let ne = h.1 in omega (arith, l, ne)
 
 pub unnamed : {A : Type 0} (things : List A) (none : A) {k p : ℕ} → k ≡ p → length things ≤ k → none ≡ get_or things p none
 unnamed things none e h = sym (get_or-eq_default things none (omega (arith, e, h)))

@@ -1,11 +1,14 @@
 -- Laws of the limits of 32 bits, by the tests of a number that is held.
-use mathlib.Core.Path.{◌≡◌, refl, sym, ◌∙◌}
+use mathlib.Core.Path.{◌≡◌, refl, sym, ap, ◌∙◌}
 use mathlib.Core.Bool.{Bool, true, false, cond}
-use Prim.Native.Nat.{ℕ, ◌≤◌, ◌<◌, min}
+use Prim.Native.Nat.{ℕ, zero, suc, ◌+◌, ◌-◌, ◌≤◌, ◌<◌, min}
 use native.Mathlib.Decide.{dec_le}
 use native.Mathlib.Omega.{arith}
 use lib.Dec.{leb, leb→le}
-use lib.IntN.{pos, neg_ℤ}
+use lib.IntN.{pos, negsuc, neg_ℤ, ◌-ℤ◌, +ℤ_idl}
+use mir.Syntax.{w32}
+use mir.Val.{SFits, to_z, of_z}
+use mir.Facts.{to_z_pos, to_z-of_z}
 use borrow.Author.Tests.{le-leb, lt-leb}
 use Rattle.scan.specs.Held.{held_natural, held_integer}
 use Rattle.scan.specs.declared.numbers.Natural.{Natural}
@@ -80,3 +83,21 @@ minus_high v h = rw (lt-leb v 2147483648 h)
 pub minus_in : (v : ℕ) → v ≤ 2147483648 → signed.Is (neg_ℤ (pos v)) ≡ signed_of (Minus v)
 unfolding signed_of
 minus_in v h = rw (le-leb v 2147483648 h)
+
+-- ---- a negative number of 32 bits
+
+less_one : (v : ℕ) → 1 ≤ v → neg_ℤ (pos (v - 1)) -ℤ pos 1 ≡ neg_ℤ (pos v)
+less_one zero h = absurd (omega arith)
+less_one (suc zero) h = refl
+less_one (suc (suc v)) h = let e : suc (suc v) - 1 ≡ suc v = omega arith in rw e (ap (λ (k : ℕ). negsuc (suc k)) (omega arith))
+
+pub negative_fits : (v : ℕ) → v ≤ 2147483648 → SFits w32 (neg_ℤ (pos v))
+negative_fits zero h = record { sfits = omega arith }
+negative_fits (suc v) h = record { sfits = omega arith }
+
+-- negated in 32 bits, less one
+pub negated_is : (v : ℕ) → 1 ≤ v → v ≤ 2147483648 → pos 0 -ℤ to_z w32 (v - 1) ≡ neg_ℤ (pos (v - 1))
+negated_is v h k = rw (to_z_pos w32 {n = v - 1} (omega arith)) (+ℤ_idl (neg_ℤ (pos (v - 1))))
+
+pub negative_is : (v : ℕ) → 1 ≤ v → v ≤ 2147483648 → to_z w32 (of_z w32 (pos 0 -ℤ to_z w32 (v - 1))) -ℤ pos 1 ≡ neg_ℤ (pos v)
+negative_is v h k = rw (negated_is v h k, to_z-of_z (negative_fits (v - 1) (omega arith))) (less_one v h)

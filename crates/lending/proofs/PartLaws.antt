@@ -3,8 +3,8 @@ use Prim.Native.Nat.{ℕ, ◌+◌, ◌-◌, ◌≤◌}
 use mathlib.Core.Path.{◌≡◌, refl, sym, ap, subst, ◌∙◌}
 use mathlib.Core.List.{List, [], ◌++◌, map, append-nil}
 use native.Mathlib.Omega.{arith}
-use lib.ListN.{length, take, drop, length-take, length-drop}
-use lib.Seq.{drop-drop, drop-length, take_all, length-take-le}
+use lib.ListN.{length, take, drop, length-take, length-drop, length-append}
+use lib.Seq.{drop-drop, drop-length, take_all, length-take-le, take-append_seam}
 use Rattle.commands.specs.Rows.{Value, Lies, size_of, stretch_of, kind_of, places_of}
 use Rattle.commands.specs.Commands.{values_judged}
 use Rattle.commands.specs.declared.faults.Judged.TheVariants.{Good}
@@ -26,6 +26,12 @@ part_few {A} lent r store part p =
 -- nor is more given back than was lent
 pub part-fits : {A : Type 0} (lent : Lent) (r : Row) (store part : List A) {n : ℕ} → part ≡ part_at lent (stretch_of r) store → n ≡ length part → n ≤ places_of r
 part-fits lent r store part p e = let few = part_few lent r store part p in omega (arith, few, e)
+
+-- what was copied to the first places of a list
+pub fetched : {A : Type 0} (part values old new : List A) → values ≡ part → new ≡ stored values old → (length values ≤ length new) × (take (length values) new ≡ part)
+fetched {A} part values old new e p =
+    let long = ap (length {A = A}) p ∙ length-append values (drop (length values) old) in
+    (omega (arith, long), rw p (take-append_seam values (drop (length values) old)) ∙ e)
 
 -- a stretch that was looked up in the table, where the row's kind is known
 module _ (s : Stretch) (r : Row) (e : s ≡ stretch_of r) (l : Lies s) where

@@ -1,11 +1,11 @@
 -- Laws of rows that are filled from the first place on, for numbers of any kind.
 use Prim.Native.Nat.{ℕ, zero, suc, ◌+◌, ◌≤◌, ◌<◌}
 use mathlib.Core.Path.{◌≡◌, refl, sym, ap, ◌∙◌}
-use mathlib.Core.List.{List, [], ◌∷◌, ◌++◌, map, append_assoc}
+use mathlib.Core.List.{List, [], ◌∷◌, ◌++◌, map, append-nil, append_assoc}
 use native.Mathlib.Numerals.{add-one}
 use native.Mathlib.Omega.{arith}
 use lib.ListN.{length, get_or, take, drop, set, replicate, length-set, length-map, length-drop, length-replicate}
-use lib.Seq.{drop-cons, set_at, take-suc, take-length, length-take-le}
+use lib.Seq.{drop-cons, drop-length, set_at, take-suc, take-length, length-take-le}
 use Rattle.scan.specs.Pieces.{first_at}
 use Rattle.scan.proofs.PieceLaws.{rest_long}
 use Rattle.commands.specs.Words.{words_of}
@@ -44,6 +44,9 @@ module _ {A : Type 0} (v : A) (old new : List A) (i : ℕ) (g : Clearing v old n
     long = length-set new i v ∙ g.long;
   }
 
+  pub clear_end : length new ≤ i → new ≡ replicate (length old) v
+  clear_end h = let e : i ≡ length old = omega (arith, g.below, g.long) in rw (g.filled, e, drop-length old) (append-nil (replicate (length old) v))
+
 -- ---- the values of another row
 
 -- what holds where the first i values are copied
@@ -53,6 +56,9 @@ pub record Copying {A : Type 0} (values old new : List A) (i : ℕ) : Type 0 whe
   pub long : length new ≡ length old
 
 module _ {A : Type 0} (values old : List A) (room : length values ≤ length old) where
+  pub copy_start : Copying values old old 0
+  copy_start = record { below = omega arith; filled = refl; long = refl }
+
   pub copy_more : (z : A) (new : List A) (i : ℕ) (v : A) → Copying values old new i → i < length values → v ≡ get_or values i z → Copying values old (set new i v) (i + 1)
   copy_more z new i v g h e = record {
     below = omega arith;
@@ -61,6 +67,9 @@ module _ {A : Type 0} (values old : List A) (room : length values ≤ length old
         (store_more (take i values) old i v (length-take-le i values g.below) (omega arith));
     long = length-set new i v ∙ g.long;
   }
+
+  pub copy_end : (new : List A) (i : ℕ) → Copying values old new i → length values ≤ i → new ≡ stored values old
+  copy_end new i g h = let e : i ≡ length values = omega (arith, g.below) in rw (g.filled, e, take-length values)
 
 -- ---- a number for each word of a text
 
@@ -71,6 +80,9 @@ pub record Storing {A : Type 0} (value : List ℕ → A) (text : List ℕ) (old 
   pub few : i ≤ length (words_of text)
   pub filled : new ≡ map value (take i (words_of text)) ++ drop i old
   pub long : length new ≡ length old
+
+pub storing_start : {A : Type 0} (value : List ℕ → A) (text : List ℕ) (old : List A) → Storing value text old old 0 0
+storing_start value text old = record { below = omega arith; ahead = refl; few = omega arith; filled = refl; long = refl }
 
 map_more : {A : Type 0} (value : List ℕ → A) (ws : List (List ℕ)) (w : List ℕ) → map value (ws ++ (w ∷ [])) ≡ map value ws ++ (value w ∷ [])
 map_more value [] w = refl

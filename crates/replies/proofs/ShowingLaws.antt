@@ -33,6 +33,18 @@ module _ {A : Type 0} (text : A → List ℕ) (name : List ℕ) (row : List A) {
 
 -- a row that was looked up in the table, in stores that are full
 module _ (s : Stretch) (r : Row) (e : s ≡ stretch_of r) (l : Lies s) (lent : Lent) (all : Stores) (full : Full all) where
+  pub lent_there : (many k : ℕ) → many ≡ lent_at lent s → k ≤ many → k ≤ lent_at lent (stretch_of r)
+  lent_there many k p h = let q = ap (λ (t : Stretch). lent_at lent t) e in omega (arith, p, q)
+
+  -- the values that are lent have room on a page
+  pub few : (kind : Kind) → s.kind ≡ kind → (k : ℕ) → k ≤ lent_at lent (stretch_of r) → k * width_of kind ≤ 360448
+  few kind q k h = by_kind kind (subst (λ (x : Kind). s.places * width_of x ≤ 360448) q l.short) (omega (arith, ap (λ (t : Stretch). lent_at lent t) e))
+    where
+      by_kind : (x : Kind) → s.places * width_of x ≤ 360448 → k ≤ s.places → k * width_of x ≤ 360448
+      by_kind Counts p b = omega arith
+      by_kind Numbers p b = omega arith
+      by_kind Bytes p b = omega arith
+
   kind_was : (kind : Kind) → s.kind ≡ kind → kind ≡ kind_of r
   kind_was kind q = sym q ∙ ap (λ (t : Stretch). t.kind) e
 

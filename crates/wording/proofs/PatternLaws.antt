@@ -1,11 +1,11 @@
 -- Laws of the patterns that refusals are told by.
-use Prim.Native.Nat.{ℕ, zero, suc, ◌≤◌, ◌<◌}
-use mathlib.Core.Path.{◌≡◌, refl, ap, ◌∙◌}
-use mathlib.Core.Bool.{Bool, true, ◌&&◌}
+use Prim.Native.Nat.{ℕ, zero, suc, ◌+◌, ◌-◌, ◌≤◌, ◌<◌}
+use mathlib.Core.Path.{◌≡◌, refl, sym, ap, ◌∙◌}
+use mathlib.Core.Bool.{Bool, true, cond, ◌&&◌}
 use mathlib.Core.List.{List, [], ◌∷◌, ◌++◌, map}
 use native.Mathlib.Omega.{arith}
 use lib.Dec.{T, leb, leb→le}
-use lib.ListN.{length, take, drop, get_or}
+use lib.ListN.{length, take, drop, get_or, length-take, length-drop}
 use borrow.Author.Tests.{lt-ltb, le-ltb}
 use mir.Facts.{and_yes}
 use Rattle.scan.specs.Ascii.{bytes}
@@ -27,6 +27,9 @@ module _ (v : ℕ) (p : List ℕ) (e : ℕ) (q : e ≡ first_at 35 p) where
   pub part-whole : length p ≤ e → p ≡ part v p
   unfolding part
   part-whole h = rw (le-ltb (first_at 35 p) (length p) (omega (arith, q)))
+
+  pub after_long : e ≤ length p → length (after_mark p) ≡ length p - (e + 1)
+  after_long h = simp length-drop (omega (arith, q))
 
 -- ---- all patterns are short
 
