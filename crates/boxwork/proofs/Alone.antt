@@ -7,8 +7,7 @@ use lib.IntN.{ℤ}
 use Rattle.rules.specs.Paper.{Reply}
 use Rattle.walks.specs.Walk.{Net}
 use Rattle.walks.specs.Rows.{Rows}
-use Rattle.walks.specs.Through.{Consistent}
-use Rattle.walks.specs.Checking.{Misses, FirstMissed}
+use Rattle.walks.specs.Checking.{Misses}
 use Rattle.passing.specs.Signs.{signs, boxes_alone, box_signs}
 use Rattle.passing.specs.Passing.{Keeps}
 use Rattle.judging.specs.Order.{placed_by, shaped_by, build_judged, check_judged}
@@ -43,7 +42,7 @@ module _ (n m : ℕ) (R : Rows) (x y boxes : List ℤ) (modules masks : List ℕ
   check_says (Checks.consistent f c) = Checks.consistent f (record { keeps = λ e t i. alone (c.keeps e t i) })
   check_says (Checks.box_missed f h) = Checks.box_missed f (record {
     misses = misses_alone h.misses;
-    lowest_arc_lem = λ i j k. h.lowest_arc_lem i j (misses-with k);
-    lowest_node_lem = λ j k. h.lowest_node_lem j (misses-with k);
+    lowest_arc = λ i j k. h.lowest_arc i j (misses-with k);
+    lowest_node = λ j k. h.lowest_node j (misses-with k);
   })
   check_says (Checks.mask_missed f c h) = absurd (none-misses h.misses)

@@ -5,7 +5,7 @@ use mathlib.Core.Path.{◌≡◌, refl, sym, subst, ap, ◌∙◌}
 use mathlib.Core.List.{List, [], ◌∷◌}
 use borrow.Author.Tests.{eqb-true}
 use lib.IntN.{ℤ}
-use lib.ListN.{length, get_or, get_or-append}
+use lib.ListN.{length, get_or-append}
 use lib.Seq.{get_or-set_same}
 use Rattle.rules.specs.Paper.{Reply, accepted}
 use Rattle.rules.specs.declared.Judged.{Judged}

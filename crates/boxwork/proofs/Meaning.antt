@@ -160,10 +160,10 @@ module _ {n m : ℕ} {R : Rows} (sound : Sound n m R) where
     pub missed_first : {e t : ℕ} → Lowest (misses_node R n m asked G) n m e t → FirstMissed (network m R) (Keeps asked G) e t
     missed_first {e} {t} l = record {
       misses = missed_yes t e l.node_low l.node_high l.arc_low l.arc_high l.passes;
-      lowest_arc_lem = λ i j h.
+      lowest_arc = λ i j h.
           let r = InS_range sound h.member in
           elim (dec_le e i) [ yes q ↦ q | no q ↦ absurd (h.refused (missed_no j i (l.arc_first j i r.2 r.3 r.0 (omega arith)) h.member)) ];
-      lowest_node_lem = λ j h.
+      lowest_node = λ j h.
           let r = InS_range sound h.member in
           elim (dec_le t j) [ yes q ↦ q | no q ↦ absurd (h.refused (missed_no j e (l.node_first j r.2 (omega arith)) h.member)) ];
     }

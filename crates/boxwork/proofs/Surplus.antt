@@ -148,8 +148,8 @@ module _ {n m : ℕ} {R : Rows} (sound : Sound n m R) (asked : Asked) (G : Signs
   missed_cut : {e t : ℕ} → FirstMissed (network m R) (Keeps asked G) e t → FirstMissed (network m (cut m R)) (Keeps asked (cut_signs n m G)) e t
   missed_cut {e} {t} f = record {
     misses = record { member = InS_alike (network-cut m R) f.misses.member; refused = λ k. f.misses.refused (keeps_back e t f.misses.member k) };
-    lowest_arc_lem = λ i j k. f.lowest_arc_lem i j (misses_back k);
-    lowest_node_lem = λ j k. f.lowest_node_lem j (misses_back k);
+    lowest_arc = λ i j k. f.lowest_arc i j (misses_back k);
+    lowest_node = λ j k. f.lowest_node j (misses_back k);
   }
 
 -- ---- The laws

@@ -36,5 +36,5 @@ none_below : (n k : ℕ) → NoneBelow n k → n ≤ k
 none_below zero k h = omega arith
 none_below (suc n) k h = let l = none_below n k h.0 in let ne = h.1 in omega (arith, l, ne)
 
-pub unnamed : {A : Type 0} (things : List A) (none : A) {k p : ℕ} → k ≡ p → NoneBelow (length things) k → none ≡ get_or things p none
-unnamed things none {k} e h = let l = none_below (length things) k h in sym (get_or-eq_default things none (omega (arith, e, l)))
+pub unnamed : {A : Type 0} (things : List A) (none : A) {k p : ℕ} → k ≡ p → length things ≤ k → none ≡ get_or things p none
+unnamed things none e h = sym (get_or-eq_default things none (omega (arith, e, h)))

@@ -24,7 +24,7 @@ use Rattle.walks.specs.Rows.{Rows, network, Sound}
 use Rattle.walks.specs.Least.{Reached}
 use Rattle.passing.specs.Signs.{boxes_alone, box_signs}
 use Rattle.passing.specs.Passing.{passing}
-use Rattle.judging.specs.Order.{network_judged, ends, searched_by, shaped_by, search_judged, day_judged}
+use Rattle.judging.specs.Order.{network_judged, searched_by, shaped_by, search_judged, day_judged}
 use Rattle.search.specs.Says as search
 use Rattle.search.specs.Says.{Answers}
 use Rattle.search.proofs.SaysLaws.{answers_unique}

@@ -11,7 +11,6 @@ use Rattle.rules.specs.Paper.{Reply, accepted}
 use Rattle.rules.proofs.PaperLaws.{refusal_injective}
 use Rattle.rules.specs.declared.Judged.TheVariants.{Fine}
 use Rattle.rules.specs.declared.Refusal.{Refusal}
-use Rattle.scan.specs.Fields.{none}
 use Rattle.scan.specs.declared.holding.Numbers.{Numbers}
 use Rattle.dimacs.specs.Rules.{column_of}
 use Rattle.dimacs.specs.Texts.{Outcome, read, refused}

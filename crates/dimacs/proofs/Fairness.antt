@@ -11,10 +11,8 @@ use borrow.Author.Tests.{leb-true, leb-false, ltb-true, le-leb, lt-leb, not-true
 use Rattle.rules.proofs.AndLaws.{and_true}
 use Rattle.rules.proofs.JudgingLaws.{both_fine, passed}
 use Rattle.rules.specs.Judging.{or_else, passes}
-use Rattle.rules.specs.declared.Refusal.{Refusal}
 use Rattle.rules.specs.declared.Refusal.TheVariants.{OutOfOrder, BeyondLimits, CountsDisagree, NodeAgain}
-use Rattle.rules.specs.declared.Judged.{Judged}
-use Rattle.rules.specs.declared.Judged.TheVariants.{Fine, Refused}
+use Rattle.rules.specs.declared.Judged.TheVariants.{Fine}
 use Rattle.scan.specs.Held.{held, held_z, held_numbers, held_line}
 use Rattle.scan.specs.declared.holding.Numbers.{Numbers}
 use Rattle.scan.specs.declared.line.Line.{Line}

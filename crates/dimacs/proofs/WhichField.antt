@@ -1,19 +1,18 @@
 -- Request c: what is true of a line's fault.
-use Prim.Native.Nat.{ℕ, ◌+◌, ◌-◌, ◌≤◌}
-use mathlib.Core.Path.{◌≡◌, refl, sym, ap, subst, ◌∙◌}
+use Prim.Native.Nat.{ℕ, ◌≤◌}
+use mathlib.Core.Path.{◌≡◌, refl, ap, ◌∙◌}
 use mathlib.Core.Bool.{Bool, true, false, cond, ◌&&◌, not}
 use mathlib.Core.List.{List, [], ◌∷◌}
 use native.Mathlib.Omega.{arith}
-use lib.Dec.{eqb, leb, ltb}
+use lib.Dec.{leb, ltb}
 use lib.ListN.{length, take, drop}
 use lib.Seq.{length-take-le}
 use Rattle.rules.specs.Judging.{in_turn, passes}
 use Rattle.rules.specs.Paper.{tells_column, refusal, judged_reply}
-use Rattle.rules.specs.declared.Judged.TheVariants.{Fine, Refused}
 use Rattle.rules.specs.declared.Refusal.TheVariants.{OutOfOrder, BeyondLimits, CountsDisagree, NodeAgain}
 use Rattle.scan.specs.Ascii.{bytes}
 use Rattle.scan.specs.Pieces.{first_at, same_bytes}
-use Rattle.scan.specs.Faults.{HasFault, SeenAt}
+use Rattle.scan.specs.Faults.{HasFault}
 use Rattle.scan.specs.Held.{held_line}
 use Rattle.scan.specs.declared.fields.Kind.{Kind}
 use Rattle.scan.specs.declared.fields.Kind.TheVariants.{EmptyLine, NoLetter, Misspelt, Missing, Extra}
@@ -29,7 +28,7 @@ use Rattle.dimacs.specs.Co.{co_problem, co_node, co_line}
 use Rattle.dimacs.specs.P2p.{p2p_problem, p2p_query, p2p_line}
 use Rattle.dimacs.specs.Formats.{format_line}
 use Rattle.dimacs.specs.Judgement.{announced, problem_judged, again, data_judged, fault_at, judged}
-use Rattle.dimacs.specs.WhichField.{Formed, FaultExactly, ToldExactly, FaultSeen, ColumnWithin}
+use Rattle.dimacs.specs.WhichField.{FaultExactly, ToldExactly, FaultSeen, ColumnWithin}
 use Rattle.dimacs.specs.Fair.{Short}
 use Rattle.dimacs.specs.declared.format.Format.{Format}
 use Rattle.dimacs.specs.declared.format.Format.TheVariants.{Graph, Coordinates, Queries}

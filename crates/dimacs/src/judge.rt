@@ -30,7 +30,8 @@ fn count_announced(rules: Rules, problem: Numbers) -> u32
 fn judge_problem(rules: Rules, head: Head, ns: Numbers, line: u32) -> Judged
     ensures { result ≡ problem_judged rules head line ns }
 {
-    if head.seen {
+    let second = head.seen;
+    if second {
         return Judged::Refused(Refusal::OutOfOrder { line });
     }
     if !are_within(rules.problem, ns) {

@@ -12,7 +12,7 @@ use Rattle.geometry.specs.Row.{coordinate}
 use Rattle.geometry.proofs.SmallestLaws.{IsPlace, smallest_same}
 use Rattle.geometry.proofs.MarkLaws.{taken_shaped, taken_smallest}
 use Rattle.settling.proofs.Choice.{cond_by}
-use Rattle.masks.specs.Mask.{Has, lighted}
+use Rattle.masks.specs.Mask.{Has}
 use Rattle.masks.proofs.MaskLaws.{no_module, lighted_has, lighted_small}
 use Rattle.walks.specs.Rows.{at}
 use Rattle.drawing.specs.Gathered.{add_place, add_module, add_if, gathered}

@@ -110,8 +110,8 @@ pub fn gather_all(
     masks: &mut [u32],
 )
     requires { Sound n m (rows tails.now heads.now weights.now closures.now) × Lent asked n m (signs x.now y.now boxes.old modules.now masks.old) }
-    ensures drawn_if { DrawnIf asked.boxes box_row m (AddedAll (leads_to (rows tails.now heads.now weights.now closures.now) n m) (add_place x.now y.now) n) boxes.old boxes.new }
-    ensures drawn_if_2 { DrawnIf asked.masks mask_row m (AddedAll (leads_to (rows tails.now heads.now weights.now closures.now) n m) (add_module modules.now) n) masks.old masks.new }
+    ensures boxes_drawn { DrawnIf asked.boxes box_row m (AddedAll (leads_to (rows tails.now heads.now weights.now closures.now) n m) (add_place x.now y.now) n) boxes.old boxes.new }
+    ensures masks_drawn { DrawnIf asked.masks mask_row m (AddedAll (leads_to (rows tails.now heads.now weights.now closures.now) n m) (add_module modules.now) n) masks.old masks.new }
 {
     let by_boxes = asked.boxes;
     let by_masks = asked.masks;

@@ -1,5 +1,5 @@
 -- The order on ℤ, where `lib.Signed` stops: it is transitive, antisymmetric and total, and `smaller` and `larger` are its meet and join.
-use Rattle.std.proofs.Common.{◌≡◌, ◌≤◌, Bool, true, false, cond, not, T, ℤ, pos, negsuc, ◌≤ℤ◌, ap, le_trans, le_of_lt, le_antisymm, le→leb, leb→le}
+use Rattle.std.proofs.Common.{◌≡◌, Bool, true, false, cond, not, T, ℤ, pos, negsuc, ◌≤ℤ◌, ap, le_trans, le_of_lt, le_antisymm, le→leb, leb→le}
 use lib.Dec.{nleb→lt}
 use lib.Signed.{le_z, ≤ℤ_refl}
 use Rattle.geometry.specs.Hull.{smaller, larger}

@@ -3,7 +3,8 @@ use Prim.Native.Nat.{ℕ, zero, suc, ◌-◌, ◌*◌, ◌/◌, ◌%◌, ◌^◌
 use mathlib.Core.Path.{◌≡◌, refl}
 use mathlib.Core.List.{◌∷◌}
 use native.Mathlib.Omega.{arith}
-use native.Mathlib.Nat.{pow-suc, mod-eq_of_lt, one-le-pow, not-suc-le-zero}
+use native.Mathlib.Decide.{dec_le}
+use native.Mathlib.Nat.{pow-le-pow_right, pow-suc, mod-eq_of_lt, one-le-pow, not-suc-le-zero}
 use lib.IntN.{ℤ, pos, negsuc, nat_abs}
 use lib.Signed.{lt_z}
 use mathlib.Core.Bool.{true, false}
@@ -27,6 +28,13 @@ digits_decimal (suc (suc k)) n x =
     let digit : n % 10 < 10 = omega arith in
     let rest = digits_decimal (suc k) (n / 10) (omega arith, omega (arith, x.1), λ _. rw e₂ (omega arith)) in
     simp (lt-ltb (n % 10) 10 digit, rest, decimal_more n (omega arith))
+
+-- a number of 64 bits has at most 20 digits
+pub few_digits : (n k : ℕ) → n < 2 ^ 64 → IsDigitCount 10 1 n k → k ≤ 20
+few_digits n k h x = elim (dec_le k 20) [ yes p ↦ p | no p ↦ absurd (many p) ]
+  where
+    many : (k ≤ 20 → ⊥) → ⊥
+    many p = let e : 10 ^ 20 ≤ 10 ^ (k - 1) = pow-le-pow_right {n = 10} (omega arith) {i = 20} {j = k - 1} (omega (arith, p)) in omega (arith, h, e, x.2 (omega (arith, p)))
 
 pub whole_minus : (z : ℤ) → lt_z z (pos 0) ≡ true → 45 ∷ decimal (nat_abs z) ≡ whole z
 unfolding whole

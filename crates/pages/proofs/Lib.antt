@@ -1,3 +1,4 @@
+pub mod Signed
 pub mod PageLaws
 pub mod DecimalLaws
 pub mod SpacedLaws

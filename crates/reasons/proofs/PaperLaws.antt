@@ -1,8 +1,6 @@
 -- No two answers have the same number and values.
-use Prim.Native.Nat.{ℕ}
 use mathlib.Core.Path.{◌≡◌, refl, sym, ap, ◌∙◌}
-use mathlib.Core.Logic.{◌⊎◌, inl, inr}
-use mathlib.Core.List.{List, [], ◌∷◌}
+use mathlib.Core.List.{◌∷◌}
 use Rattle.rules.specs.Paper.{Reply, first_or_0}
 use Rattle.rules.specs.declared.Refusal.{Refusal}
 use Rattle.rules.proofs.PaperLaws.{refusal_injective, refusal_nonzero}

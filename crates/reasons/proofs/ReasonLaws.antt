@@ -1,18 +1,18 @@
 -- Exactly one reason is the first that is true; it follows from d(s,u), d(v,t), d(s,t) and the route.
 use mathlib.Core.Path.{◌≡◌, refl, sym, ap₂, ◌∙◌, subst}
-use mathlib.Core.Logic.{◌⊎◌, inl, inr, ◌≢◌}
-use mathlib.Core.List.{List, [], ◌∷◌}
+use mathlib.Core.Logic.{inl, inr, ◌≢◌}
+use mathlib.Core.List.{List}
 use Prim.Native.Nat.{ℕ, zero, suc, ◌+◌, ◌-◌, ◌≤◌, ◌<◌}
 use native.Mathlib.Omega.{arith}
 use native.Mathlib.Decide.{ℕ_discrete, dec_lt}
 use Rattle.walks.specs.Walk.{Net}
 use Rattle.walks.proofs.WalkLaws.{single, join, by_sized}
-use Rattle.walks.specs.Least.{Reached, Dist}
+use Rattle.walks.specs.Least.{Dist}
 use Rattle.walks.proofs.LeastLaws.{dist_unique, best_dist}
 use Rattle.walks.specs.Route.{Route}
 use Rattle.walks.proofs.RouteLaws.{route_unique, route_best, route_walk}
 use Rattle.reasons.specs.Using.{Among, Uses, BestThrough}
-use Rattle.reasons.proofs.UsingLaws.{uses_parts, uses_reached, through_unique, sum_best}
+use Rattle.reasons.proofs.UsingLaws.{uses_reached, through_unique, sum_best}
 use Rattle.reasons.specs.Reason.{Reason, closed, cut_off, longer, tied, on_route, number, Longer, Tied, OnRoute, True, FirstTrue}
 
 number_range : (r : Reason) → (1 ≤ number r) × (number r ≤ 5)
@@ -125,8 +125,8 @@ module _ (N : Net) (s t e : ℕ) where
   same_value : (q r : Reason) → number q ≡ number r → True N s t e q → True N s t e r → value q ≡ value r
   same_value q r p x y = elim (ℕ_discrete (number q) 3) [
     | yes h ↦
-        let a = is_longer q h x in
-        let b = is_longer r (sym p ∙ h) y in
+        let a = is_longer {N = N} {s = s} {t = t} {e = e} q h x in
+        let b = is_longer {N = N} {s = s} {t = t} {e = e} r (sym p ∙ h) y in
         omega (arith, dist_unique a.dist b.dist, through_unique a.through b.through)
     | no h ↦ no_value q h ∙ sym (no_value r λ z. h (p ∙ z))
   ]

@@ -1,12 +1,11 @@
 -- The best walk through e = (u,v) of weight w has length d(s,u) + w + d(v,t), and there is none exactly when s cannot
 -- reach u or v cannot reach t.
 use mathlib.Core.Path.{◌≡◌, refl, sym, subst}
-use mathlib.Core.Logic.{◌↔◌, inl, inr}
+use mathlib.Core.Logic.{inl, inr}
 use mathlib.Core.List.{List, [], ◌∷◌, ◌++◌}
 use Prim.Native.Nat.{ℕ, ◌+◌}
 use native.Mathlib.Nat.{le_antisymm}
 use native.Mathlib.Omega.{arith}
-use lib.ListN.{length}
 use Rattle.walks.specs.Walk.{Net, Walk, empty, WalkBy, by_none, by_arc}
 use Rattle.walks.proofs.WalkLaws.{single, join, by_sized, by_walk, walk_by}
 use Rattle.walks.specs.Least.{Reached, Dist}

@@ -1,7 +1,7 @@
 -- What the inner steps of `why` tell.
 use Rattle.std.specs.Prelude.{Bool, true, false, cond, List, [], ◌∷◌, eqb, ℕ, ◌≤◌}
 use Rattle.walks.specs.Walk.{Net}
-use Rattle.walks.specs.Rows.{Rows, network, Sound}
+use Rattle.walks.specs.Rows.{Rows, Sound}
 use Rattle.walks.specs.Least.{Reached, Dist}
 use Rattle.walks.specs.Route.{Route}
 use Rattle.reasons.specs.declared.shortest.Way.{Way}

@@ -3,7 +3,7 @@ use mathlib.Core.Path.{◌≡◌, refl, sym, ap, subst, ◌∙◌}
 use mathlib.Core.Logic.{◌⊎◌, inl, inr, ⊎_elim}
 use mathlib.Core.List.{List, [], ◌∷◌}
 use mathlib.Core.Bool.{Bool, true, false, cond, ◌&&◌}
-use Prim.Native.Nat.{ℕ, zero, suc, ◌+◌, ◌-◌, ◌≤◌, ◌<◌}
+use Prim.Native.Nat.{ℕ, suc, ◌+◌, ◌-◌, ◌≤◌, ◌<◌}
 use native.Mathlib.Nat.{eq-or-lt_of_le}
 use native.Mathlib.Omega.{arith}
 use lib.Dec.{eqb, leb}
@@ -11,10 +11,9 @@ use lib.ListN.{length, get_or, take, drop, length-drop}
 use lib.Seq.{get_or-drop, drop-drop, length-take-le}
 use borrow.Author.Tests.{eqb-true, eq-eqb, ne_eqb, lt-ltb, le-ltb}
 use Rattle.scan.specs.Pieces.{first_at, first_field, same_bytes, fields_of}
-use Rattle.scan.specs.Fields.{before, taken, unread, on_field, matched}
+use Rattle.scan.specs.Fields.{before, taken, on_field, matched}
 use Rattle.scan.specs.Line.{problem_line, data_line, faulty, is_comment, line_of}
 use Rattle.scan.specs.Faults.{Fits, ends, goes_on, HasForm, comment, on_problem_line, on_data_line, HasFault, AfterSpace, SeenAt}
-use Rattle.scan.specs.Held.{held_line}
 use Rattle.scan.specs.declared.holding.Numbers.{Numbers}
 use Rattle.scan.specs.declared.holding.Value.{Value}
 use Rattle.scan.specs.declared.holding.Value.TheVariants.{Word}
@@ -25,7 +24,6 @@ use Rattle.scan.specs.declared.fields.Field.{Field}
 use Rattle.scan.specs.declared.fields.Field.TheVariants.{Taken, NotTaken}
 use Rattle.scan.specs.declared.fields.Fields.{Fields}
 use Rattle.scan.specs.declared.fields.Fields.TheVariants.{Read, Unread}
-use Rattle.scan.specs.declared.line.Line.{Line}
 use Rattle.scan.specs.declared.line.Line.TheVariants.{Comment, Problem, Data, Faulty}
 use Rattle.scan.proofs.PieceLaws.{first_le}
 use Rattle.scan.proofs.MatchingLaws.{later, fields_first}

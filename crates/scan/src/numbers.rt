@@ -60,7 +60,8 @@ pub fn read_natural(s: &[u8]) -> Natural
     if s.len() == 1 {
         return read_digits(s);
     }
-    if b == b'0' {
+    let padded = b == b'0';
+    if padded {
         return Natural::NoNumber;
     }
     read_digits(s)
@@ -83,7 +84,8 @@ fn with_minus(n: Natural) -> Integer
     let Natural::Number(v) = n else {
         return Integer::NoInteger;
     };
-    if v == 0 {
+    let zero = v == 0;
+    if zero {
         return Integer::NoInteger;
     }
     Integer::Minus(v)

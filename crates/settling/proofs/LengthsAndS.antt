@@ -7,7 +7,7 @@ use lib.Dec.{ltb, eqb}
 use borrow.Author.Tests.{lt-ltb, ltb-true, eqb-true, eq-eqb}
 use Rattle.walks.specs.Walk.{Net, reverse}
 use Rattle.walks.proofs.WalkLaws.{backward}
-use Rattle.walks.specs.Rows.{Rows, laid, is_open, network, turned, Sound}
+use Rattle.walks.specs.Rows.{Rows, laid, is_open, network, Sound}
 use Rattle.walks.proofs.RowsLaws.{turned-network, turned_sound}
 use Rattle.walks.specs.Least.{Reached, Dist}
 use Rattle.walks.proofs.LeastLaws.{best_dist, dist_turned, dist_sized, dist_unique}

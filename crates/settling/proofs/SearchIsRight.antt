@@ -1,10 +1,10 @@
 -- What a search by labels answers is what 01 defines: for any test `keep` of arcs, in the network of only those arcs that pass it.
-use Prim.Native.Nat.{ℕ, ◌+◌, ◌<◌, ◌≤◌}
+use Prim.Native.Nat.{ℕ, ◌<◌, ◌≤◌}
 use native.Mathlib.Omega.{arith}
 use native.Mathlib.Numerals.{add-one}
 use native.Mathlib.Decide.{dec_lt}
 use mathlib.Core.Bool.{Bool, true, false, true≢false, false≢true}
-use mathlib.Core.Path.{◌≡◌, refl, sym, subst}
+use mathlib.Core.Path.{◌≡◌, refl}
 use mathlib.Core.Logic.{inr}
 use mathlib.Core.List.{List, ◌++◌}
 use lib.ListN.{length, drop}

@@ -5,7 +5,7 @@ use native.Mathlib.Decide.{ℕ_discrete, dec_lt}
 use mathlib.Core.Bool.{Bool, true, false, not, ◌&&◌}
 use mathlib.Core.Path.{◌≡◌, refl, sym, ap, ◌∙◌}
 use mathlib.Core.List.{List}
-use lib.ListN.{length, length-set, length-replicate, get_or, get_or-replicate, set, replicate}
+use lib.ListN.{length-set, length-replicate, get_or, get_or-replicate, set, replicate}
 use lib.Seq.{get_or-set_same, get_or-set_other}
 use lib.Dec.{ltb}
 use borrow.Author.Tests.{lt-ltb, le-ltb, not-true, ltb-true}

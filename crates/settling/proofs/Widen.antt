@@ -1,5 +1,5 @@
 -- What is lent serves more nodes, and its arcs can be linked by either end.
-use Prim.Native.Nat.{ℕ, ◌≤◌}
+use Prim.Native.Nat.{ℕ}
 use native.Mathlib.Omega.{arith}
 use Rattle.frontier.specs.Chain.{Ends}
 use Rattle.walks.specs.Rows.{Rows, Sound}

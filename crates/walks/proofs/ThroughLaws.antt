@@ -1,7 +1,6 @@
 -- t is in S(e) exactly when some walk of least length from e's tail to t has e as its first arc.
 use Prim.Native.Nat.{ℕ}
 use native.Mathlib.Omega.{arith}
-use lib.ListN.{length}
 use Rattle.walks.specs.Walk.{Net, by_arc}
 use Rattle.walks.proofs.WalkLaws.{single, join, by_walk, by_first, walk_by}
 use Rattle.walks.specs.Through.{InS, Begins}

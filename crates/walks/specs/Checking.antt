@@ -11,5 +11,5 @@ pub record Misses (N : Net) (Keep : ℕ → ℕ → Type 0) (e t : ℕ) : Type 0
 -- e is the lowest arc with a missed node, and t its lowest missed node
 pub record FirstMissed (N : Net) (Keep : ℕ → ℕ → Type 0) (e t : ℕ) : Type 0 where
   pub misses : Misses N Keep e t
-  pub lowest_arc_lem : (i j : ℕ) → Misses N Keep i j → e ≤ i
-  pub lowest_node_lem : (j : ℕ) → Misses N Keep e j → t ≤ j
+  pub lowest_arc : (i j : ℕ) → Misses N Keep i j → e ≤ i
+  pub lowest_node : (j : ℕ) → Misses N Keep e j → t ≤ j

@@ -4,7 +4,7 @@ use mathlib.Core.Path.{◌≡◌, refl, sym, ap, ◌∙◌}
 use mathlib.Core.Logic.{◌≢◌}
 use mathlib.Core.List.{List, [], ◌∷◌}
 use native.Mathlib.Omega.{arith}
-use lib.IntN.{ℤ, pos, negsuc, nat_abs, pos_ne_negsuc}
+use lib.IntN.{ℤ, pos, negsuc, nat_abs, pos-ne-negsuc}
 use Rattle.rules.specs.Paper.{accepted}
 use Rattle.geometry.specs.Box.{Box}
 use Rattle.geometry.specs.Row.{box_of}
@@ -49,4 +49,4 @@ unfolding table west
 not_from_the_origin b =
     let right = ((build_accepts (line_of 25 table_right) refl).1.drawn refl).entries 1 (omega arith) (omega arith) in
     let wrong = ((build_accepts b refl).1.drawn refl).entries 1 (omega arith) (omega arith) in
-    pos_ne_negsuc 0 19 (sym (ap (λ (c : Box). c.right) (around_unique right wrong)))
+    pos-ne-negsuc 0 19 (sym (ap (λ (c : Box). c.right) (around_unique right wrong)))

@@ -33,7 +33,6 @@ use Rattle.dimacs.proofs.Sound.{Entry}
 use Rattle.dimacs.proofs.Accepted.{co_count, co_nodes, not_accepted, front, co_read as co-accepted}
 use Rattle.dimacs.proofs.Replies.{co_text_lem}
 use Rattle.dimacs.proofs.Unique.{co_reply_injective}
-use Rattle.walks.specs.Rows.{at}
 use Rattle.geometry.specs.Row.{coordinate}
 use Rattle.writing.specs.Text.{node_text, co_text}
 use Rattle.scan.specs.Line.{is_comment}

@@ -24,7 +24,6 @@ use Rattle.dimacs.specs.declared.GrReply.{GrReply}
 use Rattle.dimacs.specs.declared.GrReply.TheVariants.{Read as GrRead}
 use Rattle.dimacs.specs.declared.format.Format.TheVariants.{Graph}
 use Rattle.dimacs.specs.declared.rows.Column.TheVariants.{First, Second, Third}
-use Rattle.dimacs.proofs.Fairness.{inside}
 use Rattle.dimacs.proofs.Sound.{Entry}
 use Rattle.dimacs.proofs.Counting.{clash}
 use Rattle.dimacs.proofs.Accepted.{gr_count, not_accepted, front, gr_read as gr-accepted}

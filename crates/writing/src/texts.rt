@@ -16,7 +16,7 @@ pub fn put_network(
     weights: &[u32],
 ) -> usize
     requires m_in_bounds { (m ≤ length tails.now) × (m ≤ length heads.now) × (m ≤ length weights.now) }
-    requires weights_len_bound { length (gr_text n m (open_rows tails.now heads.now weights.now)) ≤ 36878 }
+    requires text_fits { length (gr_text n m (open_rows tails.now heads.now weights.now)) ≤ 36878 }
     ensures { Puts (gr_text n m (open_rows tails.now heads.now weights.now)) 0
         page.old result page.new }
 {
@@ -33,7 +33,7 @@ pub fn put_network(
 // Puts the text of the coordinates on a page.
 pub fn put_places(page: &mut [u8; ROOM], n: u32, x: &[i32], y: &[i32]) -> usize
     requires n_in_bounds { (n ≤ length x.now) × (n ≤ length y.now) }
-    requires y_len_bound { length (co_text n x.now y.now) ≤ 36878 }
+    requires text_fits { length (co_text n x.now y.now) ≤ 36878 }
     ensures { Puts (co_text n x.now y.now) 0 page.old result page.new }
 {
     let mut at = put_places_line(page, 0, n);

@@ -20,4 +20,6 @@ pub returns-clause-fact : goal.returns-clause-fact
 returns-clause-fact c =
     let a = c.args in
     let d = desk a.sizes a.lent a.counts.now a.numbers.now a.bytes.now in
-    let made = c.make_trip-end.ensures in travelled_as d c.Counts-of.ensures c.counts_of-heads.ensures c.counts_of-weights.ensures c.bytes_of-closures.ensures c.Numbers-of.ensures c.numbers_of-y.ensures c.numbers_of-boxes.ensures c.requires.1 made.0 c.give_counts.ensures
+    travelled_as d c.counts_of-tails.ensures c.counts_of-heads.ensures c.counts_of-weights.ensures c.bytes_of-closures.ensures
+        c.numbers_of-x.ensures c.numbers_of-y.ensures c.numbers_of-boxes.ensures c.requires.1
+        c.make_trip-end.ensures.fact c.give_counts.ensures

@@ -19,5 +19,7 @@ pub returns-clause-fact : goal.returns-clause-fact
 returns-clause-fact c =
     let a = c.args in
     let d = desk a.sizes a.lent a.counts.now a.numbers.now a.bytes.now in
-    let p = c.requires in
-    let worked = c.work_on_boxes-end.ensures in worked_as d c.Counts-of.ensures c.counts_of-heads.ensures p.1 p.2 c.Numbers-of.ensures c.numbers_of-y.ensures p.3 worked.0 c.give_counts.ensures c.give_bytes.ensures c.give_numbers.ensures (part-fits _ Weights _ _ p.1 c.weights-1.given)
+    let r = c.requires in
+    worked_as d c.counts_of-tails.ensures c.counts_of-heads.ensures r.1 r.2 c.numbers_of-x.ensures c.numbers_of-y.ensures r.3
+        c.work_on_boxes-end.ensures.by_index c.give_counts.ensures c.give_bytes.ensures c.give_numbers.ensures
+        (part-fits _ Weights _ _ r.1 c.weights-1.given)

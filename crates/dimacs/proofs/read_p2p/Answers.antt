@@ -27,7 +27,6 @@ put_naturals-requires c =
     let nodes = two_tests 1 args.n args.n 512 c.if-not-n.false in
     let is_read = fine_outcome _ _ _ c.read_sheet-sheet.ensures c.in_default.is in
     let count = p2p_count args.n args.text.now _ _ nodes.1 is_read in
-    let long = c.put_naturals-arg-1.given in
     omega arith
 
 pub returns-in_default : goal.returns-in_default

@@ -16,5 +16,8 @@ returns c =
     let place : c.shift.result ≡ shifted s.args.z = c.shift.ensures ∙ ap shifted (back s.args.z z) in
     axis s.args.from s.args.to s.args.z less.result width.result s.requires from s.ranges.to.sfits z less.type_inv width.type_inv
     (rw (start, place) at less.ensures.value)
-    (rw (start, (let s = c in
-    c.shift-2.ensures ∙ ap shifted (back s.args.to s.ranges.to.sfits))) at width.ensures.value)
+    (rw (
+      start,
+      (let s = c in
+          c.shift-2.ensures ∙ ap shifted (back s.args.to s.ranges.to.sfits)),
+    ) at width.ensures.value)

@@ -1,5 +1,4 @@
 -- `listing::put_line` meets its contract.
-use Prim.Native.Nat.{◌-◌}
 use Rattle.pages.proofs.PageLaws.{puts_both}
 use Rattle.listing.specs.Listing.{line_text}
 use Rattle.listing.proofs.put_line.Goals as goal
@@ -7,7 +6,6 @@ use Rattle.listing.proofs.put_line.Goals as goal
 pub returns-clause-puts : goal.returns-clause-puts
 unfolding line_text
 returns-clause-puts c =
-    let d = c in
-    let e = d in
-    let f = e in
-    let g = f in puts_both (puts_both (puts_both (puts_both g.put_count_field-a.ensures.0 f.put_count_field-b.ensures.0) e.put_count_field-c.ensures.0) d.put_count_field-d.ensures.0) c.put_box.ensures.0
+    let tail = puts_both c.put_count_field-a.ensures.puts c.put_count_field-b.ensures.puts in
+    let weight = puts_both (puts_both tail c.put_count_field-c.ensures.puts) c.put_count_field-d.ensures.puts in
+    puts_both weight c.put_box.ensures.puts

@@ -1,5 +1,4 @@
 -- `listing::put_listing` meets its contract.
-use Prim.Native.Nat.{◌-◌}
 use native.Mathlib.Omega.{arith}
 use Rattle.pages.proofs.PageLaws.{puts_both, puts_none}
 use native.Mathlib.Numerals.{add-one}
@@ -15,4 +14,4 @@ pub loop-i-preserved : goal.loop-i-preserved
 unfolding listing
 loop-i-preserved c =
     let l = c.loop-i in
-    (omega arith, omega arith, rw (add-one l.i) (puts_both l.invariant.2 c.put_line-at.ensures.0))
+    (omega arith, omega arith, rw (add-one l.i) (puts_both l.invariant.2 c.put_line-at.ensures.puts))

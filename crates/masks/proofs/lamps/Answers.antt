@@ -1,5 +1,4 @@
 -- `masks::lamps` meets its contract.
-use Prim.Native.Nat.{◌-◌}
 use native.Mathlib.Omega.{arith}
 use Rattle.masks.specs.Says.{too_short}
 use Rattle.masks.proofs.Lighting.{lighting_place, lighting_within, lighting_next, lighting_over}

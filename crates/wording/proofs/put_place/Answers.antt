@@ -6,4 +6,4 @@ use Rattle.wording.proofs.put_place.Goals as goal
 
 pub returns-clause-puts : goal.returns-clause-puts
 unfolding place_text bytes
-returns-clause-puts c = let numbered = rw c.number.ensures at c.put_after-a.ensures.0 in puts_both numbered c.put_printed.ensures.0
+returns-clause-puts c = let numbered = rw c.number.ensures at c.put_after-a.ensures.puts in puts_both numbered c.put_printed.ensures.puts

@@ -22,10 +22,12 @@ alone n = ap (λ (l : List ℕ). 32 ∷ l) (sym (append-nil (decimal n)))
 
 pub returns-then-tells_column-clause-puts : goal.returns-then-tells_column-clause-puts
 unfolding values_text
-returns-then-tells_column-clause-puts c = let t = sym c.tells_column.ensures ∙ c.if-tells_column.true in puts_same (ap counts_text (chosen _ _ _ t)) c.put_values.ensures.0
+returns-then-tells_column-clause-puts c =
+    let tells = sym c.tells_column.ensures ∙ c.if-tells_column.true in
+    puts_same (ap counts_text (chosen _ _ _ tells)) c.put_values.ensures.puts
 
 pub returns-clause-puts : goal.returns-clause-puts
 returns-clause-puts c =
-    let d = c in
-    let t = sym d.tells_column.ensures ∙ d.if-tells_column.false in
-    let p = rw c.place.ensures at c.put_after.ensures.0 in puts_same (alone _ ∙ ap counts_text (other _ _ _ t)) p
+    let tells = sym c.tells_column.ensures ∙ c.if-tells_column.false in
+    let placed = rw c.place.ensures at c.put_after.ensures.puts in
+    puts_same (alone _ ∙ ap counts_text (other _ _ _ tells)) placed

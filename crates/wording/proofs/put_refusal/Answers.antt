@@ -7,9 +7,6 @@ use Rattle.wording.proofs.put_refusal.Goals as goal
 pub returns-clause-puts : goal.returns-clause-puts
 unfolding refusal_line bytes
 returns-clause-puts c =
-    let d = c in
-    let e = d in
-    let f = e in
-    let g = f in
-    let numbered = rw g.number.ensures at g.put_after-a.ensures.0 in
-    let valued = puts_both numbered f.put_values-b.ensures.0 in puts_both (puts_both (puts_both valued e.put-c.ensures) d.put_words-d.ensures.0) c.put.ensures
+    let numbered = rw c.number.ensures at c.put_after-a.ensures.puts in
+    let valued = puts_both numbered c.put_values-b.ensures.puts in
+    puts_both (puts_both (puts_both valued c.put-c.ensures) c.put_words-d.ensures.puts) c.put.ensures

@@ -1,33 +1,42 @@
 -- `writing::write_gr` meets its contract.
-use Prim.Native.Nat.{ℕ}
+use Prim.Native.Nat.{◌≤◌}
 use mathlib.Core.Bool.{true}
-use mathlib.Core.Path.{sym, ◌∙◌}
+use mathlib.Core.Path.{◌≡◌, sym, ◌∙◌}
 use native.Mathlib.Omega.{arith}
-use lib.ListN.{length-replicate}
+use lib.ListN.{length}
 use lib.Seq.{length-take-le}
+use Rattle.rules.specs.declared.Judged.TheVariants.{Fine}
 use Rattle.walks.specs.Rows.{open_rows}
 use Rattle.judging.specs.Order.{arcs_judged}
 use Rattle.writing.specs.Text.{gr_text}
-use Rattle.writing.proofs.WriteLaws.{page_long, page_is, gr_judged, gr_fine, writes_out, writes_on}
+use Rattle.writing.proofs.WriteLaws.{page_is, gr_judged, gr_fine, writes_out, writes_on}
 use Rattle.writing.proofs.write_gr.Goals as goal
+use Rattle.writing.proofs.write_gr.Goals.{In_default}
 
-pub put_network-end-requires-clause-m_in_bounds : goal.put_network-end-requires-clause-m_in_bounds
-put_network-end-requires-clause-m_in_bounds c = let a = c.args in let R = open_rows a.tails.now a.heads.now a.weights.now in let fine = sym c.judge_arc_rows-judged.ensures ∙ c.in_default.is in let f = gr_fine a.n a.m R fine in (f.0, f.1, f.2)
+-- the rows are judged fine, and so their text is short enough
+fine : (c : In_default) → let a = c.args in arcs_judged a.n a.m (open_rows a.tails.now a.heads.now a.weights.now) true ≡ Fine
+fine c = sym c.judge_arc_rows-judged.ensures ∙ c.in_default.is
 
-pub put_network-end-requires-clause-weights_len_bound : goal.put_network-end-requires-clause-weights_len_bound
-put_network-end-requires-clause-weights_len_bound c = let a = c.args in let R = open_rows a.tails.now a.heads.now a.weights.now in let fine = sym c.judge_arc_rows-judged.ensures ∙ c.in_default.is in let f = gr_fine a.n a.m R fine in f.3
+fits : (c : In_default) → let a = c.args in length (gr_text a.n a.m (open_rows a.tails.now a.heads.now a.weights.now)) ≤ 36878
+fits c = (gr_fine _ _ _ (fine c)).3
+
+pub put_network-end-requires : goal.put_network-end-requires
+put_network-end-requires c =
+    let f = gr_fine _ _ _ (fine (goal.at.put_network-end-requires c).In_default) in
+    record { m_in_bounds = (f.0, f.1, f.2); text_fits = f.3 }
 
 pub slice_bounds-page-end : goal.slice_bounds-page-end
-slice_bounds-page-end c = let a = c.args in let R = open_rows a.tails.now a.heads.now a.weights.now in let fine = sym c.judge_arc_rows-judged.ensures ∙ c.in_default.is in let f = gr_fine a.n a.m R fine in let long = page_long _ _ _ _ c.put_network-end.ensures ∙ length-replicate {A = ℕ} 36945 0 in omega (arith, long, f.3, c.put_network-end.ensures.end)
+slice_bounds-page-end c = omega (arith, fits (goal.at.slice_bounds-page-end c).In_default, c.put_network-end.ensures.end)
 
 pub slice_bounds-hand_over-end : goal.slice_bounds-hand_over-end
-slice_bounds-hand_over-end c = let a = c.args in let R = open_rows a.tails.now a.heads.now a.weights.now in let fine = sym c.judge_arc_rows-judged.ensures ∙ c.in_default.is in let f = gr_fine a.n a.m R fine in let long = page_long _ _ _ _ c.put_network-end.ensures ∙ length-replicate {A = ℕ} 36945 0 in sym (length-take-le c.put_network-end.result _ (omega (arith, long, f.3, c.put_network-end.ensures.end)))
+slice_bounds-hand_over-end c =
+    sym (length-take-le c.put_network-end.result _ (omega (arith, fits (goal.at.slice_bounds-hand_over-end c).In_default, c.put_network-end.ensures.end)))
 
 pub returns-in_default : goal.returns-in_default
 returns-in_default c =
-    let a = c.args in let R = open_rows a.tails.now a.heads.now a.weights.now in let fine = sym c.judge_arc_rows-judged.ensures ∙ c.in_default.is in let f = gr_fine a.n a.m R fine in let long = page_long _ _ _ _ c.put_network-end.ensures ∙ length-replicate {A = ℕ} 36945 0 in
-    let text = page_is (gr_text a.n a.m R) _ _ _ c.put_network-end.ensures (omega (arith, long, f.3)) in
-    writes_on (arcs_judged a.n a.m R true) _ _ _ _ _ _ (gr_judged a.n a.m R _) fine (rw text at c.hand_over.ensures)
+    let d = (goal.at.returns-in_default c).In_default in
+    let text = page_is _ _ _ _ c.put_network-end.ensures (omega (arith, fits d)) in
+    writes_on _ _ _ _ _ _ _ (gr_judged _ _ _ _) (fine d) (rw text at c.hand_over.ensures)
 
 pub returns : goal.returns
-returns c = let a = c.args in let R = open_rows a.tails.now a.heads.now a.weights.now in writes_out (arcs_judged a.n a.m R true) _ _ _ _ _ (gr_judged a.n a.m R _) (sym c.judge_arc_rows-judged.ensures ∙ c.in-Refused.is)
+returns c = writes_out _ _ _ _ _ _ (gr_judged _ _ _ _) (sym c.judge_arc_rows-judged.ensures ∙ c.in-Refused.is)

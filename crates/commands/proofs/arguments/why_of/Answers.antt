@@ -14,11 +14,13 @@ returns-in-Not c = sym (pair_not _ _ _ _ c.read_pair-pair.ensures c.in-Not.is)
 pub returns-in-Not-last : goal.returns-in-Not-last
 unfolding asked
 returns-in-Not-last c =
-    sym (pair_are _ _ _ _ _ c.read_pair-pair.ensures c.in-Are.is ∙ read_not _ _ _ _ (let here = c.first_word.ensures ∙ ap first_field (c.after_word.ensures ∙ ap after_word c.after_word-after_source.ensures) ∙ sym (word_third c.args.words.now) in
-    c.read_count-last.ensures ∙ ap number here) c.in-Not-last.is)
+    let third = c.first_word.ensures ∙ ap first_field (c.after_word.ensures ∙ ap after_word c.after_word-after_source.ensures) ∙ sym (word_third c.args.words.now) in
+    let read = c.read_count-last.ensures ∙ ap number third in
+    sym (pair_are _ _ _ _ _ c.read_pair-pair.ensures c.in-Are.is ∙ read_not _ _ _ _ read c.in-Not-last.is)
 
 pub returns-in-Is : goal.returns-in-Is
 unfolding asked
 returns-in-Is c =
-    sym (pair_are _ _ _ _ _ c.read_pair-pair.ensures c.in-Are.is ∙ read_is _ _ _ _ (let here = c.first_word.ensures ∙ ap first_field (c.after_word.ensures ∙ ap after_word c.after_word-after_source.ensures) ∙ sym (word_third c.args.words.now) in
-    c.read_count-last.ensures ∙ ap number here) c.in-Is.is)
+    let third = c.first_word.ensures ∙ ap first_field (c.after_word.ensures ∙ ap after_word c.after_word-after_source.ensures) ∙ sym (word_third c.args.words.now) in
+    let read = c.read_count-last.ensures ∙ ap number third in
+    sym (pair_are _ _ _ _ _ c.read_pair-pair.ensures c.in-Are.is ∙ read_is _ _ _ _ read c.in-Is.is)

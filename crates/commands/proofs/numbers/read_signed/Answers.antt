@@ -23,7 +23,7 @@ pub returns-else-v-gt2147483647 : goal.returns-else-v-gt2147483647
 returns-else-v-gt2147483647 c = ap signed.Is (to_z_pos w32 {n = c.in-Plain.v} (omega (arith, c.if-v-gt2147483647.false))) ∙ (plain_in _ c.if-v-gt2147483647.false ∙ (ap signed_of (sym c.in-Plain.is) ∙ signed_held _ _ c.read_integer-n.ensures))
 
 pub returns-else-v-gt2147483648 : goal.returns-else-v-gt2147483648
-returns-else-v-gt2147483648 c = ap signed.Is (to_z-of_z (sfits_of c.negative.type_inv) ∙ c.negative.ensures) ∙ (minus_in _ c.if-v-gt2147483648.false ∙ (ap signed_of (sym c.in-Minus.is) ∙ signed_held _ _ c.read_integer-n.ensures))
+returns-else-v-gt2147483648 c = ap signed.Is (to_z-of_z {w = w32} (sfits_of c.negative.type_inv) ∙ c.negative.ensures) ∙ (minus_in _ c.if-v-gt2147483648.false ∙ (ap signed_of (sym c.in-Minus.is) ∙ signed_held _ _ c.read_integer-n.ensures))
 
 pub returns-in-NoInteger : goal.returns-in-NoInteger
 unfolding signed_of

@@ -1,5 +1,4 @@
 -- `commands::words::count_words` meets its contract.
-use Prim.Native.Nat.{◌-◌}
 use mathlib.Core.Path.{ap}
 use native.Mathlib.Omega.{arith}
 use lib.ListN.{length}

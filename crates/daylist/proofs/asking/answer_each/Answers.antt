@@ -1,5 +1,5 @@
 -- `daylist::asking::answer_each` meets its contract: query after query is answered.
-use Prim.Native.Nat.{ℕ, ◌-◌}
+use Prim.Native.Nat.{ℕ}
 use mathlib.Core.Path.{refl}
 use native.Mathlib.Omega.{arith}
 use lib.ListN.{length-replicate}

@@ -1,7 +1,6 @@
 use mathlib.Core.Path.{sym, ap, ◌∙◌}
 use Rattle.rules.specs.declared.Judged.TheVariants.{Refused}
 use Rattle.dimacs.specs.Judgement.{judged}
-use borrow.Author.Rules.{rules}
 use Rattle.dimacs.proofs.judge.judge.Goals as goal
 
 pub returns-in-Comment : goal.returns-in-Comment

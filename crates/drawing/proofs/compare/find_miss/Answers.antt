@@ -1,7 +1,6 @@
--- `drawing::compare::find_miss` meets its contract. The loop's invariant: the lowest arc and node among the nodes up to t.
-use Prim.Native.Nat.{ℕ, ◌+◌, ◌-◌}
+-- `drawing::compare::find_miss` meets its contract.
+use Prim.Native.Nat.{ℕ, ◌+◌}
 use mathlib.Core.Path.{refl, ◌∙◌}
-use mathlib.Core.Logic.{⊎_elim}
 use native.Mathlib.Omega.{arith}
 use lib.ListN.{length-replicate}
 use Rattle.walks.specs.Rows.{rows}
@@ -9,6 +8,7 @@ use Rattle.settling.proofs.Widen.{heads_ends}
 use Rattle.passing.specs.Signs.{signs}
 use Rattle.drawing.proofs.MissedLaws.{lower_here, lower_stays, before_node}
 use Rattle.drawing.proofs.compare.find_miss.Goals as goal
+use Rattle.drawing.proofs.compare.find_miss.Goals.{then-e-below, else-e-below}
 
 pub link-requires : goal.link-requires
 link-requires c = (heads_ends c.requires.0, refl, length-replicate {A = ℕ} 2048 0)
@@ -23,8 +23,8 @@ loop-t-preserved c =
     let first = before_node R a.n a.m a.asked G (l.t + 1) marks c.tests_toward-tests.ensures c.before_miss-e.ensures in (
       omega arith,
       marks.long ∙ l.invariant.1,
-      ⊎_elim
-          (λ w. rw (w.1, w.2) (lower_here l.invariant.2 first w.0.taken))
-          (λ w. rw (w.1, w.2) (lower_stays l.invariant.2 first w.0.left))
-          c.if-e-below.branch,
+      elim c.if-e-below.branch [
+        | then-e-below w ↦ rw (w.below-is, w.node-is) (lower_here l.invariant.2 first w.if-e-below.true)
+        | else-e-below w ↦ rw (w.below-is, w.node-is) (lower_stays l.invariant.2 first w.if-e-below.false)
+      ],
     )

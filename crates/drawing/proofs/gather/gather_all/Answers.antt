@@ -1,5 +1,5 @@
--- `drawing::gather::gather_all` meets its contract. The loop's invariant: the nodes up to t are added to what is asked.
-use Prim.Native.Nat.{ℕ, ◌-◌}
+-- `drawing::gather::gather_all` meets its contract.
+use Prim.Native.Nat.{ℕ}
 use mathlib.Core.Path.{refl, ◌∙◌}
 use mathlib.Core.Bool.{Bool, false}
 use native.Mathlib.Omega.{arith}
@@ -15,11 +15,20 @@ pub link-requires : goal.link-requires
 link-requires c = (heads_ends c.requires.0, refl, length-replicate {A = ℕ} 2048 0)
 
 pub loop-t-init : goal.loop-t-init
-loop-t-init c = let a = c.args in let R = rows a.tails.now a.heads.now a.weights.now a.closures.now in (omega arith, length-replicate {A = Bool} 2048 false, none_yet box_row R a.n a.m (add_place a.x.now a.y.now) a.asked.boxes _, none_yet mask_row R a.n a.m (add_module a.modules.now) a.asked.masks _)
+loop-t-init c =
+    let a = c.args in
+    let R = rows a.tails.now a.heads.now a.weights.now a.closures.now in (
+      omega arith,
+      length-replicate {A = Bool} 2048 false,
+      none_yet box_row R a.n a.m (add_place a.x.now a.y.now) a.asked.boxes _,
+      none_yet mask_row R a.n a.m (add_module a.modules.now) a.asked.masks _,
+    )
 
 pub loop-t-preserved : goal.loop-t-preserved
 loop-t-preserved c =
-    let a = c.args in let R = rows a.tails.now a.heads.now a.weights.now a.closures.now in let l = c.loop-t in
+    let a = c.args in
+    let R = rows a.tails.now a.heads.now a.weights.now a.closures.now in
+    let l = c.loop-t in
     let marks = c.mark_toward.ensures in (
       omega arith,
       marks.long ∙ l.invariant.1,

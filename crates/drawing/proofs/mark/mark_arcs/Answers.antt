@@ -1,5 +1,4 @@
--- `drawing::mark::mark_arcs` meets its contract. The loop's invariant: the arcs up to e are marked.
-use Prim.Native.Nat.{◌-◌}
+-- `drawing::mark::mark_arcs` meets its contract.
 use native.Mathlib.Omega.{arith}
 use Rattle.walks.specs.Rows.{rows}
 use Rattle.walks.proofs.RowsLaws.{arc_at}
@@ -14,8 +13,6 @@ leads-requires c =
 
 pub loop-e-preserved : goal.loop-e-preserved
 loop-e-preserved c =
-    let s = c in
-    let R = rows s.args.tails.now s.args.heads.now s.args.weights.now s.args.closures.now in
-    let high = s.requires.0.arcs_high in
-    let drawn = c.loop-e.invariant.1 in
-    (omega arith, mark_turn R s.args.lengths.now drawn c.leads.ensures (omega (arith, high, s.requires.1)))
+    let a = c.args in
+    let R = rows a.tails.now a.heads.now a.weights.now a.closures.now in
+    (omega arith, mark_turn R a.lengths.now c.loop-e.invariant.1 c.leads.ensures (omega (arith, c.requires.0.arcs_high, c.requires.1)))

@@ -1,5 +1,4 @@
 -- `frontier::chain::link` meets its contract. The loop's invariant: the arcs from place j on are linked.
-use Prim.Native.Nat.{◌-◌}
 use native.Mathlib.Omega.{arith}
 use Rattle.frontier.proofs.Linking.{linked_none}
 use Rattle.frontier.proofs.chain.link.Goals as goal

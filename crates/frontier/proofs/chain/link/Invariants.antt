@@ -1,5 +1,5 @@
 -- `frontier::chain::link` meets its contract. The loop's invariant: the arcs from place j on are linked.
-use Prim.Native.Nat.{◌-◌, ◌≤◌}
+use Prim.Native.Nat.{◌≤◌}
 use Rattle.frontier.proofs.Linking.{Linked}
 use Rattle.frontier.proofs.chain.link.Given as goal
 

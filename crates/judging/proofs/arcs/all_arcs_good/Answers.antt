@@ -1,5 +1,4 @@
--- `judging::arcs::all_arcs_good` meets its contract. The loop's invariant: good tells whether the arcs up to i are.
-use Prim.Native.Nat.{◌-◌}
+-- `judging::arcs::all_arcs_good` meets its contract.
 use mathlib.Core.Path.{sym, ap, ◌∙◌}
 use native.Mathlib.Omega.{arith}
 use Rattle.rules.specs.Judging.{is_fine}

@@ -1,8 +1,6 @@
--- `judging::arcs::judge_arcs` meets its contract. The loop's invariant: the arcs up to at are good.
-use Prim.Native.Nat.{◌-◌}
+-- `judging::arcs::judge_arcs` meets its contract.
 use mathlib.Core.Path.{sym, ◌∙◌}
 use native.Mathlib.Omega.{arith}
-use borrow.Author.Tests.{not-true, not-false}
 use Rattle.rules.proofs.JudgingLaws.{each_none, each_more, each_first}
 use Rattle.walks.specs.Rows.{open_rows}
 use Rattle.judging.proofs.NextLaws.{arc_next}
@@ -16,7 +14,7 @@ returns-then-not-good_arc c =
     let a = c.args in
     let R = open_rows a.tails.now a.heads.now a.weights.now in
     let l = c.loop-at in
-    let bad = sym c.good_arc.ensures ∙ not-true _ c.if-not-good_arc.true in
+    let bad = sym c.good_arc.ensures ∙ c.if-not-good_arc.true in
     sym (each_first _ _ l.at a.m l.invariant.1 (sym (arc_next a.n R l.at) ∙ bad) (omega arith))
 
 pub loop-at-preserved : goal.loop-at-preserved
@@ -24,5 +22,5 @@ loop-at-preserved c =
     let a = c.args in
     let R = open_rows a.tails.now a.heads.now a.weights.now in
     let l = c.loop-at in
-    let good = sym c.good_arc.ensures ∙ not-false _ c.if-not-good_arc.false in
+    let good = sym c.good_arc.ensures ∙ c.if-not-good_arc.false in
     (omega arith, each_more _ _ l.at l.invariant.1 (sym (arc_next a.n R l.at) ∙ good))

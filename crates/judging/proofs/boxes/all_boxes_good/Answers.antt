@@ -1,5 +1,4 @@
--- `judging::boxes::all_boxes_good` meets its contract. The loop's invariant: good tells whether the boxes up to at are.
-use Prim.Native.Nat.{◌-◌}
+-- `judging::boxes::all_boxes_good` meets its contract.
 use mathlib.Core.Path.{sym, ap, ◌∙◌}
 use native.Mathlib.Omega.{arith}
 use Rattle.rules.specs.Judging.{is_fine}

@@ -1,5 +1,4 @@
--- `judging::closures::all_closures_good` meets its contract. The loop's invariant: good tells whether the closures up to i are.
-use Prim.Native.Nat.{◌-◌}
+-- `judging::closures::all_closures_good` meets its contract.
 use mathlib.Core.Path.{sym, ap}
 use native.Mathlib.Omega.{arith}
 use Rattle.rules.specs.Judging.{is_fine}

@@ -1,5 +1,4 @@
--- `judging::closures::judge_closures` meets its contract. The loop's invariant: the closures up to at are good.
-use Prim.Native.Nat.{◌-◌}
+-- `judging::closures::judge_closures` meets its contract.
 use mathlib.Core.Path.{sym, ◌∙◌}
 use native.Mathlib.Omega.{arith}
 use borrow.Author.Tests.{le-leb, lt-leb}

@@ -1,8 +1,6 @@
--- `judging::modules::judge_modules` meets its contract. The loop's invariant: the nodes up to at are good.
-use Prim.Native.Nat.{◌-◌}
+-- `judging::modules::judge_modules` meets its contract.
 use mathlib.Core.Path.{sym, ◌∙◌}
 use native.Mathlib.Omega.{arith}
-use borrow.Author.Tests.{not-true, not-false}
 use Rattle.rules.proofs.JudgingLaws.{each_none, each_more, each_first}
 use Rattle.judging.proofs.NextLaws.{module-next}
 use Rattle.judging.proofs.modules.judge_modules.Goals as goal
@@ -14,12 +12,10 @@ pub returns-then-not-module : goal.returns-then-not-module
 returns-then-not-module c =
     let l = c.loop-at in
     let a = c.args in
-    let bad = not-true _ c.if-not-module.true in
-    rw (not-false a.asked c.if-not-asked.false) (sym (each_first _ _ l.at a.n l.invariant.1 (sym (module-next a.modules.now l.at) ∙ bad) (omega arith)))
+    rw (c.if-not-asked.false) (sym (each_first _ _ l.at a.n l.invariant.1 (sym (module-next a.modules.now l.at) ∙ c.if-not-module.true) (omega arith)))
 
 pub loop-at-preserved : goal.loop-at-preserved
 loop-at-preserved c =
     let l = c.loop-at in
     let a = c.args in
-    let good = not-false _ c.if-not-module.false in
-    (omega arith, each_more _ _ l.at l.invariant.1 (sym (module-next a.modules.now l.at) ∙ good))
+    (omega arith, each_more _ _ l.at l.invariant.1 (sym (module-next a.modules.now l.at) ∙ c.if-not-module.false))

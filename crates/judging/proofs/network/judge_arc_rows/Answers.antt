@@ -3,9 +3,10 @@ use mathlib.Core.Path.{◌≡◌, sym, ◌∙◌}
 use mathlib.Core.Bool.{Bool, ◌&&◌}
 use Rattle.rules.proofs.JudgingLaws.{refusal_decides, rest_decides, nothing_follows}
 use Rattle.rules.specs.declared.Judged.{Judged}
-use Rattle.judging.specs.Order.{arc_rows_long, lengths, arcs_judged}
+use Rattle.judging.specs.Order.{lengths, arcs_judged}
 use Rattle.judging.proofs.network.judge_arc_rows.Goals as goal
 
+-- the lengths are judged by the test that the code asked
 asked : {j : Judged} {long arcs : Bool} (others : Bool) → j ≡ lengths (long && others) → long ≡ arcs → j ≡ lengths (arcs && others)
 asked others e h = rw h at e
 

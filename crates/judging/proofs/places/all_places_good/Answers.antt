@@ -1,5 +1,4 @@
--- `judging::places::all_places_good` meets its contract. The loop's invariant: good tells whether the nodes up to i are.
-use Prim.Native.Nat.{◌-◌}
+-- `judging::places::all_places_good` meets its contract.
 use mathlib.Core.Path.{sym, ap, ◌∙◌}
 use native.Mathlib.Omega.{arith}
 use Rattle.rules.specs.Judging.{is_fine}

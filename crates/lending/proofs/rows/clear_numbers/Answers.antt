@@ -1,5 +1,4 @@
 -- `lending::rows::clear_numbers` meets its contract.
-use Prim.Native.Nat.{◌-◌}
 use Rattle.lending.proofs.StoreLaws.{clear_more}
 use Rattle.lending.proofs.rows.clear_numbers.Goals as goal
 

@@ -3,4 +3,4 @@ use Rattle.lending.proofs.PartLaws.{part_is}
 use Rattle.lending.proofs.rows.counts_of.Goals as goal
 
 pub returns : goal.returns
-returns c = part_is _ c.args.row c.stretch-s.ensures.0 c.stretch-s.ensures.1 _ _ _ c.lent_at.ensures
+returns c = part_is _ c.args.row c.stretch-s.ensures.value c.stretch-s.ensures.lies _ _ _ c.lent_at.ensures

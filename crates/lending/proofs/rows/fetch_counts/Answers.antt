@@ -5,6 +5,5 @@ use Rattle.lending.proofs.rows.fetch_counts.Goals as goal
 
 pub copy_counts-requires : goal.copy_counts-requires
 copy_counts-requires c =
-    (let a = c.args in
-    let h = part_few a.lent a.row a.counts.now c.Counts-of.result.now c.Counts-of.ensures in
-    omega (arith, h, c.requires.2))
+    let few = part_few c.args.lent c.args.row c.args.counts.now c.counts_of-values.result.now c.counts_of-values.ensures in
+    omega (arith, few, c.requires.2)

@@ -5,6 +5,5 @@ use Rattle.lending.proofs.rows.fetch_numbers.Goals as goal
 
 pub copy_numbers-requires : goal.copy_numbers-requires
 copy_numbers-requires c =
-    (let a = c.args in
-    let h = part_few a.lent a.row a.numbers.now c.Numbers-of.result.now c.Numbers-of.ensures in
-    omega (arith, h, c.requires.2))
+    let few = part_few c.args.lent c.args.row c.args.numbers.now c.numbers_of-values.result.now c.numbers_of-values.ensures in
+    omega (arith, few, c.requires.2)

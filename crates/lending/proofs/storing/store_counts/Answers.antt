@@ -1,11 +1,9 @@
 -- `lending::storing::store_counts` meets its contract.
-use Prim.Native.Nat.{◌-◌}
 use mathlib.Core.Path.{sym, ◌∙◌}
 use Rattle.commands.specs.declared.rows.Kind.TheVariants.{Counts}
 use native.Mathlib.Omega.{arith}
 use Rattle.lending.proofs.StoreLaws.{storing_more, storing_end, word_ahead, judged_here, all_passed}
 use Rattle.lending.proofs.JudgedLaws.{count_read, count_value}
-use borrow.Author.Rules.{rules}
 use Rattle.lending.proofs.storing.store_counts.Goals as goal
 
 pub returns-in_default : goal.returns-in_default
@@ -16,8 +14,8 @@ returns-in_default c =
 
 pub bounds-row-i : goal.bounds-row-i
 bounds-row-i c =
-    let h = (let h = word_ahead _ _ _ _ _ _ c.loop-at.invariant c.loop-at-test.true in
-    omega (arith, h, c.loop-at.invariant.long, c.requires.1)) in search rules
+    let ahead = word_ahead _ _ _ _ _ _ c.loop-at.invariant c.loop-at-test.true in
+    omega (arith, ahead, c.loop-at.invariant.long, c.requires.1)
 
 pub loop-at-preserved : goal.loop-at-preserved
 loop-at-preserved c =

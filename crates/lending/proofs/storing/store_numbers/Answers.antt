@@ -1,5 +1,4 @@
 -- `lending::storing::store_numbers` meets its contract.
-use Prim.Native.Nat.{◌-◌}
 use mathlib.Core.Path.{◌≡◌, sym, ◌∙◌}
 use Rattle.commands.specs.declared.rows.Kind.TheVariants.{Numbers}
 use native.Mathlib.Omega.{arith}
@@ -18,8 +17,8 @@ returns-in_default c =
 
 pub bounds-row-i : goal.bounds-row-i
 bounds-row-i c =
-    let h = (let h = word_ahead _ _ _ _ _ _ c.loop-at.invariant c.loop-at-test.true in
-    omega (arith, h, c.loop-at.invariant.long, c.requires.1)) in search rules
+    let ahead = word_ahead _ _ _ _ _ _ c.loop-at.invariant c.loop-at-test.true in
+    omega (arith, ahead, c.loop-at.invariant.long, c.requires.1)
 
 pub loop-at-preserved : goal.loop-at-preserved
 loop-at-preserved c =

@@ -1,5 +1,4 @@
 -- `listing::journeys::put_journeys` meets its contract.
-use Prim.Native.Nat.{◌-◌}
 use native.Mathlib.Omega.{arith}
 use native.Mathlib.Numerals.{add-one}
 use Rattle.pages.proofs.PageLaws.{puts_both, puts_none}
@@ -15,4 +14,4 @@ pub loop-i-preserved : goal.loop-i-preserved
 unfolding journeys_text
 loop-i-preserved c =
     let l = c.loop-i in
-    (omega arith, omega arith, rw (add-one l.i) (puts_both l.invariant.2 c.put_journey-at.ensures.0))
+    (omega arith, omega arith, rw (add-one l.i) (puts_both l.invariant.2 c.put_journey-at.ensures.puts))

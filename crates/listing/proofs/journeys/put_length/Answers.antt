@@ -11,4 +11,4 @@ returns-then-l-eq4294967295-clause-puts c = puts_if _ (eq-eqb _ 4294967295 c.if-
 
 pub returns-clause-puts : goal.returns-clause-puts
 unfolding length_text bytes
-returns-clause-puts c = puts_else _ (ne_eqb _ 4294967295 c.if-l-eq4294967295.false) c.put_count.ensures.0
+returns-clause-puts c = puts_else _ (ne_eqb _ 4294967295 c.if-l-eq4294967295.false) c.put_count.ensures.puts

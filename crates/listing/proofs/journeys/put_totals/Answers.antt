@@ -6,4 +6,4 @@ use Rattle.listing.proofs.journeys.put_totals.Goals as goal
 
 pub returns-clause-puts : goal.returns-clause-puts
 unfolding totals_text bytes
-returns-clause-puts c = puts_both (puts_both (puts_both c.put_count_field-a.ensures.0 c.put_count_field-b.ensures.0) c.put_decimal-c.ensures.0) c.put.ensures
+returns-clause-puts c = puts_both (puts_both (puts_both c.put_count_field-a.ensures.puts c.put_count_field-b.ensures.puts) c.put_decimal-c.ensures.puts) c.put.ensures

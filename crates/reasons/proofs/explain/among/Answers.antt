@@ -1,5 +1,4 @@
 -- `reasons::explain::among` meets its contract: the rest of the row decides, place by place.
-use Prim.Native.Nat.{◌-◌}
 use mathlib.Core.Path.{sym, ◌∙◌}
 use native.Mathlib.Omega.{arith}
 use borrow.Author.Tests.{eq-eqb, ne_eqb}

@@ -10,14 +10,10 @@ use Rattle.replies.proofs.answers.put_answer.Goals as goal
 pub returns-in-Found-clause-puts : goal.returns-in-Found-clause-puts
 unfolding answer_line bytes
 returns-in-Found-clause-puts c =
-    let d = c in
-    let e = d in
-    let f = e in
-    let g = f in
-    let h = g in
-    let numbers = puts_on (puts_on g.put_after-a.ensures.0 f.put_after-b.ensures.0) e.put_after-c.ensures.0 in
-    let route = puts_same (ap counts_text d.first_places.ensures.0) d.put_counts-d.ensures.0 in puts_case (λ (a : Answer). answer_line a h.args.route.now) h.in-Found.is (puts_both (puts_both numbers route) c.put.ensures)
+    let numbers = puts_on (puts_on c.put_after-a.ensures.puts c.put_after-b.ensures.puts) c.put_after-c.ensures.puts in
+    let route = puts_same (ap counts_text c.first_places.ensures.result_value) c.put_counts-d.ensures.puts in
+    puts_case (λ (a : Answer). answer_line a c.args.route.now) c.in-Found.is (puts_both (puts_both numbers route) c.put.ensures)
 
 pub returns-in-Refused-clause-puts : goal.returns-in-Refused-clause-puts
 unfolding answer_line
-returns-in-Refused-clause-puts c = let h = c in puts_case (λ (a : Answer). answer_line a h.args.route.now) h.in-Refused.is c.put_refusal.ensures.0
+returns-in-Refused-clause-puts c = puts_case (λ (a : Answer). answer_line a c.args.route.now) c.in-Refused.is c.put_refusal.ensures.puts

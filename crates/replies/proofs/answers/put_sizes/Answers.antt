@@ -6,6 +6,4 @@ use Rattle.replies.proofs.answers.put_sizes.Goals as goal
 
 pub returns-clause-puts : goal.returns-clause-puts
 unfolding sizes_line bytes
-returns-clause-puts c =
-    let d = c in
-    let e = d in puts_both (puts_on e.put_after-a.ensures.0 d.put_after-b.ensures.0) c.put.ensures
+returns-clause-puts c = puts_both (puts_on c.put_after-a.ensures.puts c.put_after-b.ensures.puts) c.put.ensures

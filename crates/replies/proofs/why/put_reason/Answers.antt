@@ -14,7 +14,7 @@ returns-in-CutOff-clause-puts c = puts_case reason_line c.in-CutOff.is c.put-in-
 
 pub returns-in-Longer-clause-puts : goal.returns-in-Longer-clause-puts
 unfolding reason_line bytes
-returns-in-Longer-clause-puts c = puts_case reason_line c.in-Longer.is (puts_both (puts_both c.put_between-a.ensures.0 c.put_count-b.ensures.0) c.put-in-Longer.ensures)
+returns-in-Longer-clause-puts c = puts_case reason_line c.in-Longer.is (puts_both (puts_both c.put_between-a.ensures.puts c.put_count-b.ensures.puts) c.put-in-Longer.ensures)
 
 pub returns-in-Tied-clause-puts : goal.returns-in-Tied-clause-puts
 unfolding reason_line bytes
@@ -26,4 +26,4 @@ returns-in-OnRoute-clause-puts c = puts_case reason_line c.in-OnRoute.is c.put-i
 
 pub returns-in-Refused-clause-puts : goal.returns-in-Refused-clause-puts
 unfolding reason_line
-returns-in-Refused-clause-puts c = puts_case reason_line c.in-Refused.is c.put_refusal.ensures.0
+returns-in-Refused-clause-puts c = puts_case reason_line c.in-Refused.is c.put_refusal.ensures.puts

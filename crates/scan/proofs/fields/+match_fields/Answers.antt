@@ -1,6 +1,5 @@
 -- The proof of the cycle of calls {match_fields}: each call has a field of the form less to read.
 use mathlib.Core.Path.{◌∙◌, ap}
-use borrow.Fn.PlainCycle.{is}
 use Rattle.scan.specs.Fields.{before}
 use Rattle.scan.specs.declared.fields.Fields.TheVariants.{Read}
 use Rattle.scan.proofs.MatchingLaws.{field_bad, field_last, field_extra, field_missing, later_bad, later_read}

@@ -1,5 +1,4 @@
 use Rattle.scan.specs.declared.numbers.Natural.TheVariants.{Number}
-use Prim.Native.Nat.{◌-◌}
 use mathlib.Core.Path.{◌∙◌, ap}
 use native.Mathlib.Omega.{arith}
 use Rattle.scan.specs.Held.{held_natural}

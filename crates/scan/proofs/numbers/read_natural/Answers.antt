@@ -11,12 +11,12 @@ pub returns-then-s-eq1 : goal.returns-then-s-eq1
 unfolding held_natural
 returns-then-s-eq1 c = c.read_digits.ensures ∙ sym (ap held_natural (natural_one c.args.s.now c.if-s-eq1.true))
 
-pub returns-then-b-eq48 : goal.returns-then-b-eq48
+pub returns-then-padded : goal.returns-then-padded
 unfolding held_natural
-returns-then-b-eq48 c = sym (ap held_natural (natural_padded c.args.s.now _ c.first_byte-b.ensures c.if-s-eq0.false c.if-s-eq1.false c.if-b-eq48.true))
+returns-then-padded c = sym (ap held_natural (natural_padded c.args.s.now _ c.first_byte-b.ensures c.if-s-eq0.false c.if-s-eq1.false c.if-padded.true))
 
 pub returns : goal.returns
 unfolding held_natural
 returns c =
     c.read_digits-2.ensures
-    ∙ sym (ap held_natural (natural_more c.args.s.now _ c.first_byte-b.ensures c.if-s-eq0.false c.if-s-eq1.false c.if-b-eq48.false))
+    ∙ sym (ap held_natural (natural_more c.args.s.now _ c.first_byte-b.ensures c.if-s-eq0.false c.if-s-eq1.false c.if-padded.false))

@@ -8,10 +8,10 @@ pub returns-in_default : goal.returns-in_default
 unfolding negated
 returns-in_default c = ap negated (sym c.in_default.is)
 
-pub returns-then-v-eq0 : goal.returns-then-v-eq0
+pub returns-then-zero : goal.returns-then-zero
 unfolding negated
-returns-then-v-eq0 c = rw (c.in-Number.is, eq-eqb _ 0 c.if-v-eq0.true)
+returns-then-zero c = rw (c.in-Number.is, eq-eqb _ 0 c.if-zero.true)
 
 pub returns : goal.returns
 unfolding negated
-returns c = rw (c.in-Number.is, ne_eqb _ 0 c.if-v-eq0.false)
+returns c = rw (c.in-Number.is, ne_eqb _ 0 c.if-zero.false)

@@ -1,4 +1,3 @@
-use Prim.Native.Nat.{◌-◌}
 use native.Mathlib.Omega.{arith}
 use Rattle.scan.proofs.PieceLaws.{first_hit, first_miss, first_end}
 use Rattle.scan.proofs.pieces.first_at.Goals as goal

@@ -1,5 +1,5 @@
 -- `scan::pieces::piece_at` meets its contract.
-use Prim.Native.Nat.{ℕ, ◌-◌, ◌+◌, ◌≤◌}
+use Prim.Native.Nat.{ℕ, ◌+◌, ◌≤◌}
 use mathlib.Core.Path.{sym, ap, ◌∙◌}
 use native.Mathlib.Omega.{arith}
 use lib.ListN.{length, length-take}

@@ -6,21 +6,17 @@ use Rattle.search.proofs.find.find.Goals as goal
 
 pub overflow_cast-settled : goal.overflow_cast-settled
 overflow_cast-settled c =
-    let s = c in
-    omega (arith, count_small s.requires.0 _ s.args.s s.args.t s.requires.2 s.requires.3 s.args.route.now s.requires.6 c.run-o.ensures)
+    omega (arith, count_small c.requires.0 _ c.args.s c.args.t c.requires.2 c.requires.3 c.args.route.now c.requires.6 c.run-o.ensures)
 
 pub returns-then-not-found : goal.returns-then-not-found
 returns-then-not-found c =
-    let s = c in
-    none_answers s.requires.0 _ s.args.s s.args.t s.requires.2 s.requires.3 s.args.route.now s.requires.6 c.run-o.ensures c.if-not-found.true
+    none_answers c.requires.0 _ c.args.s c.args.t c.requires.2 c.requires.3 c.args.route.now c.requires.6 c.run-o.ensures c.if-not-found.true
 
 pub trace-requires : goal.trace-requires
 trace-requires c =
-    let s = c in
-    let fits = route-fits s.requires.0 _ s.args.s s.args.t s.requires.2 s.requires.3 s.args.route.now s.requires.6 c.run-o.ensures c.if-not-found.false in
-    (s.requires.4, omega (arith, s.requires.0), widened s.requires.0, s.requires.1, fits)
+    let fits = route-fits c.requires.0 _ c.args.s c.args.t c.requires.2 c.requires.3 c.args.route.now c.requires.6 c.run-o.ensures c.if-not-found.false in
+    (c.requires.4, omega (arith, c.requires.0), widened c.requires.0, c.requires.1, fits)
 
 pub returns : goal.returns
 returns c =
-    let s = c in
-    found-answers s.requires.0 _ s.args.s s.args.t s.requires.2 s.requires.3 s.args.route.now s.requires.6 c.run-o.ensures c.if-not-found.false c.trace.ensures
+    found-answers c.requires.0 _ c.args.s c.args.t c.requires.2 c.requires.3 c.args.route.now c.requires.6 c.run-o.ensures c.if-not-found.false c.trace.ensures

@@ -1,8 +1,7 @@
--- `settling::relax::settle_one` meets its contract. The loop's invariant: the labels are those after the arcs 1..j, and j is
-use Prim.Native.Nat.{◌+◌, ◌-◌, ◌≤◌}
+-- `settling::relax::settle_one` meets its contract.
+use Prim.Native.Nat.{◌+◌, ◌≤◌}
 use native.Mathlib.Omega.{arith}
 use mathlib.Core.Path.{◌≡◌, refl, sym, ◌∙◌}
-use mathlib.Core.Logic.{⊎_elim}
 use lib.ListN.{get_or}
 use Rattle.walks.specs.Rows.{rows}
 use Rattle.frontier.specs.Chain.{From}
@@ -12,6 +11,7 @@ use Rattle.settling.proofs.SettleSteps.{relaxed_none, settle_all}
 use Rattle.settling.proofs.TreeFollows.{front_marked}
 use Rattle.settling.proofs.AlongChains.{relaxed_from, turn_shut, turn_open}
 use Rattle.settling.proofs.relax.settle_one.Goals as goal
+use Rattle.settling.proofs.relax.settle_one.Goals.{then-passes, else-passes}
 
 pub loop-j-init : goal.loop-j-init
 unfolding marked
@@ -37,18 +37,16 @@ loop-j-preserved c =
     let R = rows a.tails.now a.heads.now a.weights.now a.closures.now in
     let K = keeps a.task.tests a.closures.now a.boxes.now a.masks.now in
     let i = c.loop-j in
-    let f = (let following-here : let a = c.args in
-    let j = c.loop-j.j in From a.task.m a.tails.now a.u (j + 1) (get_or a.next.now j 0) =
-    rw (c.loop-j.invariant.1 c.loop-j-test.true) at (c.requires.1.nexts c.loop-j.j c.loop-j-test.true)
-    in following-here) in
+    let f : From a.task.m a.tails.now a.u (i.j + 1) (get_or a.next.now i.j 0) =
+    rw (i.invariant.1 c.loop-j-test.true) at (c.requires.1.nexts i.j c.loop-j-test.true) in
     let out = i.invariant.1 c.loop-j-test.true in
     let asked = c.passes.ensures in (
       f.high,
       f.holds,
-      ⊎_elim
-          (λ w. rw (w.8, w.9, w.10) (record { same = turn_open R K a.u _ _ _ i.j i.invariant.2.same f out asked w.0.taken w.7.ensures.same; front = w.7.ensures.front }))
-          (λ w. rw (w.1, w.2, w.3) (record { same = turn_shut R K a.u _ _ _ i.j i.invariant.2.same f out asked w.0.left; front = i.invariant.2.front }))
-          c.if-passes.branch,
+      elim c.if-passes.branch [
+        | then-passes w ↦ rw (w.length-is, w.arcs-is, w.tree-is) (record { same = turn_open R K a.u _ _ _ i.j i.invariant.2.same f out asked w.if-passes.true w.offer.ensures.same; front = w.offer.ensures.front })
+        | else-passes w ↦ rw (w.length-is, w.arcs-is, w.tree-is) (record { same = turn_shut R K a.u _ _ _ i.j i.invariant.2.same f out asked w.if-passes.false; front = i.invariant.2.front })
+      ],
     )
 
 pub returns : goal.returns

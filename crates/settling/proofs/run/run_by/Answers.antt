@@ -1,4 +1,4 @@
--- `settling::run::run_by` meets its contract. The loop's invariant: the run is over, or stands at the labels at hand.
+-- `settling::run::run_by` meets its contract.
 use native.Mathlib.Omega.{arith}
 use mathlib.Core.Path.{refl}
 use Rattle.frontier.proofs.Leaves.{mended_start}

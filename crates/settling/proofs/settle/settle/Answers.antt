@@ -1,4 +1,4 @@
--- `settling::settle::settle` meets its contract. The loop's invariant: the run stands at the labels at hand.
+-- `settling::settle::settle` meets its contract.
 use Prim.Native.Nat.{◌+◌}
 use native.Mathlib.Omega.{arith}
 use Rattle.settling.specs.Labels.{labels}

@@ -1,7 +1,6 @@
--- `settling::trace::arc_into` meets its contract. The loop's invariant: the look from place j on is the whole look, and j is
-use Prim.Native.Nat.{◌+◌, ◌-◌}
+-- `settling::trace::arc_into` meets its contract.
+use Prim.Native.Nat.{◌+◌}
 use mathlib.Core.Path.{sym, ◌∙◌}
-use mathlib.Core.Logic.{⊎_elim}
 use mathlib.Core.List.{[]}
 use lib.ListN.{get_or}
 use Rattle.walks.specs.Rows.{rows}
@@ -12,6 +11,7 @@ use Rattle.passing.specs.Asking.{keeps}
 use Rattle.settling.proofs.TraceSteps.{hit, miss, over, into_whole, arc_shut, arc_fits_lem}
 use Rattle.settling.proofs.AlongChains.{rest_from}
 use Rattle.settling.proofs.trace.arc_into.Goals as goal
+use Rattle.settling.proofs.trace.arc_into.Goals.{then-passes+else-leads, else-passes}
 
 pub loop-j-init : goal.loop-j-init
 loop-j-init c =
@@ -40,16 +40,14 @@ loop-j-preserved c =
     let L = labels a.length.now a.arcs.now [] in
     let whole = into_of R K L a.v a.m in
     let i = c.loop-j in
-    let f = (let following-here : let a = c.args in
-    let j = c.loop-j.j in From a.m a.heads.now a.v (j + 1) (get_or a.next.now j 0) =
-    rw (c.loop-j.invariant.2 c.loop-j-test.true) at (c.requires.4.nexts c.loop-j.j c.loop-j-test.true)
-    in following-here) in
+    let f : From a.m a.heads.now a.v (i.j + 1) (get_or a.next.now i.j 0) =
+    rw (i.invariant.2 c.loop-j-test.true) at (c.requires.4.nexts i.j c.loop-j-test.true) in
     let out = i.invariant.2 c.loop-j-test.true in
     let asked = sym c.passes.ensures in (
-      rest_from R K L a.v whole f (miss _ a.m whole i.j i.invariant.0 (⊎_elim
-          (λ w. arc_fits_lem R K L a.v i.j out (asked ∙ w.0.taken) (sym w.5.ensures ∙ w.6.left))
-          (λ w. arc_shut R K L a.v i.j out (asked ∙ w.left))
-          c.if-passes.branch)),
+      rest_from R K L a.v whole f (miss _ a.m whole i.j i.invariant.0 (elim c.if-passes.branch [
+        | then-passes+else-leads w ↦ arc_fits_lem R K L a.v i.j out (asked ∙ w.if-passes.true) (sym w.leads.ensures ∙ w.if-leads.false)
+        | else-passes w ↦ arc_shut R K L a.v i.j out (asked ∙ w.if-passes.false)
+      ])),
       f.high,
       f.holds,
     )

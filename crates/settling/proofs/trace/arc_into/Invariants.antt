@@ -1,4 +1,5 @@
 -- `settling::trace::arc_into` meets its contract. The loop's invariant: the look from place j on is the whole look, and j is
+-- the place of the next arc into v.
 use Prim.Native.Nat.{◌-◌, ◌<◌, ◌≤◌}
 use mathlib.Core.Path.{◌≡◌}
 use mathlib.Core.List.{[]}

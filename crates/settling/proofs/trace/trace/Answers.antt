@@ -1,5 +1,5 @@
--- `settling::trace::trace` meets its contract. The loop's invariant: the rest of the trace gives the whole route.
-use Prim.Native.Nat.{ℕ, ◌+◌, ◌-◌, ◌≤◌}
+-- `settling::trace::trace` meets its contract.
+use Prim.Native.Nat.{ℕ, ◌+◌, ◌-◌}
 use native.Mathlib.Omega.{arith}
 use mathlib.Core.Path.{◌≡◌, refl, sym, ◌∙◌}
 use mathlib.Core.List.{[]}
@@ -21,34 +21,26 @@ returns-in_default c =
     let i = c.loop-k in
     let R = rows a.tails.now a.heads.now a.weights.now a.closures.now in
     let K = keeps a.tests a.closures.now a.boxes.now a.masks.now in
-    let L = a.t1 in
+    let L = a.labels in
     let z : i.k - 1 + 1 ≡ i.k = omega (arith, c.loop-k-test.true) in
     let q = sym c.arc_into-into.ensures ∙ c.in_default.is in
     (sym (trace_stuck R K a.m (labels L.length L.arcs []) i.v i.route (i.k - 1) q) ∙ rw z i.invariant.6) ∙ trace_unmarked R K a.m L _ _ _
 
 pub overflow_cast-route : goal.overflow_cast-route
 overflow_cast-route c =
-    let h = (let found-here : (1 ≤ c.in-Arc.e) × (c.in-Arc.e ≤ c.args.m) =
-    into_in _ _ _ _ _ _ (sym c.arc_into-into.ensures ∙ c.in-Arc.is)
-    in found-here) in omega (arith, h.0, h.1, c.requires.2)
+    let h = into_in _ _ _ _ _ _ (sym c.arc_into-into.ensures ∙ c.in-Arc.is) in omega (arith, h.0, h.1, c.requires.2)
 
 pub overflow_sub-v : goal.overflow_sub-v
 overflow_sub-v c =
-    let h = (let found-here : (1 ≤ c.in-Arc.e) × (c.in-Arc.e ≤ c.args.m) =
-    into_in _ _ _ _ _ _ (sym c.arc_into-into.ensures ∙ c.in-Arc.is)
-    in found-here) in omega (arith, h.0, h.1, c.requires.2)
+    let h = into_in _ _ _ _ _ _ (sym c.arc_into-into.ensures ∙ c.in-Arc.is) in omega (arith, h.0, h.1, c.requires.2)
 
 pub offset_bounds-tails-e : goal.offset_bounds-tails-e
 offset_bounds-tails-e c =
-    let h = (let found-here : (1 ≤ c.in-Arc.e) × (c.in-Arc.e ≤ c.args.m) =
-    into_in _ _ _ _ _ _ (sym c.arc_into-into.ensures ∙ c.in-Arc.is)
-    in found-here) in omega (arith, h.0, h.1, c.requires.2)
+    let h = into_in _ _ _ _ _ _ (sym c.arc_into-into.ensures ∙ c.in-Arc.is) in omega (arith, h.0, h.1, c.requires.2)
 
 pub bounds-tails-e : goal.bounds-tails-e
 bounds-tails-e c =
-    let h = (let found-here : (1 ≤ c.in-Arc.e) × (c.in-Arc.e ≤ c.args.m) =
-    into_in _ _ _ _ _ _ (sym c.arc_into-into.ensures ∙ c.in-Arc.is)
-    in found-here) in omega (arith, h.0, h.1, c.requires.2)
+    let h = into_in _ _ _ _ _ _ (sym c.arc_into-into.ensures ∙ c.in-Arc.is) in omega (arith, h.0, h.1, c.requires.2)
 
 pub loop-k-preserved : goal.loop-k-preserved
 loop-k-preserved c =
@@ -56,10 +48,8 @@ loop-k-preserved c =
     let i = c.loop-k in
     let R = rows a.tails.now a.heads.now a.weights.now a.closures.now in
     let K = keeps a.tests a.closures.now a.boxes.now a.masks.now in
-    let L = a.t1 in
-    let h = (let found-here : (1 ≤ c.in-Arc.e) × (c.in-Arc.e ≤ c.args.m) =
-    into_in _ _ _ _ _ _ (sym c.arc_into-into.ensures ∙ c.in-Arc.is)
-    in found-here) in
+    let L = a.labels in
+    let h = into_in _ _ _ _ _ _ (sym c.arc_into-into.ensures ∙ c.in-Arc.is) in
     let z : i.k - 1 + 1 ≡ i.k = omega (arith, c.loop-k-test.true) in
     let e = c.in-Arc.e in
     let s = c.requires.2.arcs e h.0 h.1 in (
@@ -78,6 +68,6 @@ returns c =
     let i = c.loop-k in
     let R = rows a.tails.now a.heads.now a.weights.now a.closures.now in
     let K = keeps a.tests a.closures.now a.boxes.now a.masks.now in
-    let L = a.t1 in
+    let L = a.labels in
     let z : i.k ≡ 0 = omega arith in
     (sym (trace_over _ _ _ _ _ _) ∙ rw z at i.invariant.6) ∙ trace_unmarked R K a.m L _ _ _

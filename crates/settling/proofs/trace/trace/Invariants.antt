@@ -1,5 +1,5 @@
 -- `settling::trace::trace` meets its contract. The loop's invariant: the rest of the trace gives the whole route.
-use Prim.Native.Nat.{◌*◌, ◌-◌, ◌≤◌}
+use Prim.Native.Nat.{◌*◌, ◌≤◌}
 use mathlib.Core.Path.{◌≡◌}
 use mathlib.Core.List.{[]}
 use lib.ListN.{length as length'}

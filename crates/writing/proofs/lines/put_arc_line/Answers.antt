@@ -8,4 +8,4 @@ pub returns : goal.returns
 returns c =
     let a = c.args in
     puts_same (arc_put (decimal a.tail) (decimal a.head) (decimal a.weight))
-    (puts_both c.put_after-a.ensures.0 (puts_both c.put_after-b.ensures.0 (puts_both c.put_after-c.ensures.0 c.put.ensures)))
+    (puts_both c.put_after-a.ensures.puts (puts_both c.put_after-b.ensures.puts (puts_both c.put_after-c.ensures.puts c.put.ensures)))

@@ -7,4 +7,4 @@ use Rattle.writing.proofs.lines.put_graph_line.Goals as goal
 pub returns : goal.returns
 returns c =
     let a = c.args in
-    puts_same (gr_put (decimal a.n) (decimal a.m)) (puts_both c.put_after-a.ensures.0 (puts_both c.put_after-b.ensures.0 c.put.ensures))
+    puts_same (gr_put (decimal a.n) (decimal a.m)) (puts_both c.put_after-a.ensures.puts (puts_both c.put_after-b.ensures.puts c.put.ensures))

@@ -5,4 +5,4 @@ use Rattle.writing.proofs.PutLaws.{co_put}
 use Rattle.writing.proofs.lines.put_places_line.Goals as goal
 
 pub returns : goal.returns
-returns c = puts_same (co_put (decimal c.args.n)) (puts_both c.put_after-a.ensures.0 c.put.ensures)
+returns c = puts_same (co_put (decimal c.args.n)) (puts_both c.put_after-a.ensures.puts c.put.ensures)
