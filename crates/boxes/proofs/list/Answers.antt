@@ -7,12 +7,19 @@ use Rattle.boxes.specs.Prints.{graph, places, listed}
 use Rattle.boxes.proofs.list.Goals as goal
 
 pub returns-in-Built-clause-printed : goal.returns-in-Built-clause-printed
-returns-in-Built-clause-printed c = record { text = listing _ _ _ _ _; says = listed (rw c.in-Built.is at c.load-loaded.ensures.0); puts = c.put_listing.ensures.0 }
+returns-in-Built-clause-printed c =
+    let rows = c.load-loaded.new in
+    let built = rw c.in-Built.is at c.load-loaded.ensures.loads in
+    record { text = listing rows.tails rows.heads rows.weights rows.boxes c.in-Built.m; says = listed built; puts = c.put_listing.ensures.puts }
 
 pub returns-in-Graph-clause-printed : goal.returns-in-Graph-clause-printed
 unfolding bytes
-returns-in-Graph-clause-printed c = record { text = trouble_text _ ++ bytes "\n"; says = graph (rw c.in-Graph.is at c.load-loaded.ensures.0); puts = c.put_trouble.ensures.0 }
+returns-in-Graph-clause-printed c =
+    let trouble = rw c.in-Graph.is at c.load-loaded.ensures.loads in
+    record { text = trouble_text c.in-Graph.trouble ++ bytes "\n"; says = graph trouble; puts = c.put_trouble.ensures.puts }
 
 pub returns-in-Places-clause-printed : goal.returns-in-Places-clause-printed
 unfolding bytes
-returns-in-Places-clause-printed c = record { text = trouble_text _ ++ bytes "\n"; says = places (rw c.in-Places.is at c.load-loaded.ensures.0); puts = c.put_trouble-in-Places.ensures.0 }
+returns-in-Places-clause-printed c =
+    let trouble = rw c.in-Places.is at c.load-loaded.ensures.loads in
+    record { text = trouble_text c.in-Places.trouble ++ bytes "\n"; says = places trouble; puts = c.put_trouble-in-Places.ensures.puts }

@@ -12,4 +12,4 @@ returns-in-Unread-clause-puts c = puts_case (λ (t : Trouble). trouble_text t ++
 
 pub returns-in-Refused-clause-puts : goal.returns-in-Refused-clause-puts
 unfolding trouble_text bytes
-returns-in-Refused-clause-puts c = puts_case (λ (t : Trouble). trouble_text t ++ c.args.end.now) c.in-Refused.is (puts_both c.put_place-a.ensures.0 c.put-in-Refused.ensures)
+returns-in-Refused-clause-puts c = puts_case (λ (t : Trouble). trouble_text t ++ c.args.end.now) c.in-Refused.is (puts_both c.put_place-a.ensures.puts c.put-in-Refused.ensures)
