@@ -1,4 +1,4 @@
--- Each command's reply is what is said of a line that asks for it.
+-- `console::answer::answer` meets its contract.
 use Rattle.console.specs.Answers.{Answers, Answered}
 use Rattle.console.proofs.AnswerLaws.{lends_as, fresh_as, answered_as, answered_by, read_as, saved_as}
 use Rattle.console.proofs.answer.answer.Goals as goal
@@ -16,7 +16,8 @@ returns-in-Lend-clause-answered g c =
 
 pub returns-in-Fresh-clause-answered : goal.returns-in-Fresh-clause-answered
 returns-in-Fresh-clause-answered g c =
-    answered_by c.if-ended-length.false c.asked-command.ensures c.heard-words.ensures c.in-Fresh.is (fresh_as c.clear_rows.ensures c.start-again.ensures) c.put_ok-in-Fresh.ensures.puts
+    let says = fresh_as c.clear_rows.ensures c.start-again.ensures in
+    answered_by c.if-ended-length.false c.asked-command.ensures c.heard-words.ensures c.in-Fresh.is says c.put_ok-in-Fresh.ensures.puts
 
 pub returns-in-Save-clause-answered : goal.returns-in-Save-clause-answered
 returns-in-Save-clause-answered g c =
