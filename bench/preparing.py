@@ -32,7 +32,7 @@ def say(words: str) -> None:
 
 
 def command(words: list[str | Path]) -> str:
-    done = subprocess.run([str(word) for word in words], stdout=subprocess.PIPE, text=True, cwd=TOP)
+    done = subprocess.run([str(word) for word in words], stdin=subprocess.DEVNULL, stdout=subprocess.PIPE, text=True, cwd=TOP)
     if done.returncode != 0:
         raise Unable(f"`{' '.join(map(str, words))}` ended with status {done.returncode}\n{done.stdout}")
     return done.stdout
@@ -54,7 +54,7 @@ def kit_library() -> Path:
     if not rt:
         raise Unable("no `rt` on the PATH: install the Rattle kit first")
     kit = Path(os.environ.get("RATTLE_HOME") or Path(rt).resolve().parent.parent)
-    return kit / "on" / platform.machine() / "toolchain" / "lib"
+    return kit / "toolchain" / "lib"
 
 
 def compiled(name: str, source: str, compiler: list[str | Path]) -> Path:
@@ -87,8 +87,8 @@ def peers(level: str) -> Path:
 
 def proved_console() -> Path:
     say("proving and building the console first, where that is not done")
-    command(["rt", "check", "console"])
-    return TOP / "target" / "bin" / "console"
+    command(["rt", "run", "console"])
+    return TOP / "crates" / "console" / "out" / "console"
 
 
 def functions(program: Path) -> str:
