@@ -1,5 +1,5 @@
 -- What is shown of a row, once it is known whether enough is lent.
-use Prim.Native.Nat.{ℕ, ◌≤◌, ◌<◌}
+use Prim.Native.Nat.{ℕ, ◌*◌, ◌≤◌, ◌<◌}
 use mathlib.Core.Path.{◌≡◌, sym, ap, subst, ◌∙◌}
 use native.Mathlib.Omega.{arith}
 use mathlib.Core.List.{List, ◌++◌}
@@ -11,10 +11,11 @@ use Rattle.pages.specs.Spaced.{spaced}
 use Rattle.pages.proofs.PageLaws.{puts_case, puts_if, puts_else}
 use Rattle.commands.specs.declared.Fault.TheVariants.{FewerLent}
 use Rattle.replies.specs.Replies.{fault_line}
-use Rattle.commands.specs.Rows.{Value, Lies, stretch_of, kind_of, name_of}
+use Rattle.commands.specs.Rows.{Value, Lies, stretch_of, kind_of, width_of, name_of}
 use Rattle.commands.specs.declared.Shown.{Shown}
 use Rattle.commands.specs.declared.rows.Row.{Row}
 use Rattle.commands.specs.declared.rows.Kind.{Kind}
+use Rattle.commands.specs.declared.rows.Kind.TheVariants.{Counts, Numbers, Bytes}
 use Rattle.commands.specs.declared.rows.Stretch.{Stretch}
 use Rattle.lending.specs.Stores.{Stores, Full, store_of, lent_at, part_at, row_on}
 use Rattle.lending.specs.declared.rows.Lent.{Lent}
