@@ -5,7 +5,7 @@ use mathlib.Core.List.{List, ◌++◌}
 use native.Mathlib.Omega.{arith}
 use Rattle.scan.specs.Ascii.{bytes}
 use Rattle.files.specs.File.{Held}
-use Rattle.loading.specs.Loading.{Plan, trouble_text}
+use Rattle.loading.specs.Loading.{trouble_text}
 use Rattle.loading.specs.declared.Trouble.{Trouble}
 use Rattle.loading.proofs.Unique.{loads_unique}
 use Rattle.boxes.specs.Prints.{Prints, graph, places, listed}

@@ -2,7 +2,6 @@
 use Prim.Native.Nat.{ℕ, ◌≤◌}
 use mathlib.Core.Path.{◌≡◌}
 use mathlib.Core.List.{List, ◌++◌}
-use lib.IntN.{ℤ}
 use lib.ListN.{take}
 use Rattle.rules.specs.declared.Refusal.{Refusal}
 use Rattle.scan.specs.Ascii.{bytes}

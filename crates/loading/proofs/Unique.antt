@@ -1,7 +1,6 @@
 -- For the same contents of the two files, one thing is loaded; where it is a plan with its boxes, the rows are the same.
 use Prim.Native.Nat.{ℕ}
-use mathlib.Core.Path.{◌≡◌, refl, sym, ap, ◌∙◌}
-use mathlib.Core.List.{List}
+use mathlib.Core.Path.{◌≡◌, refl, ap}
 use native.Mathlib.Omega.{arith}
 use Rattle.rules.proofs.PaperLaws.{judged_injective}
 use Rattle.rules.specs.declared.Refusal.{Refusal}

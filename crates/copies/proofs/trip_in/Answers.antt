@@ -14,12 +14,12 @@ make_trip-end-requires c =
     omega (arith, few)
 
 pub give_counts-requires : goal.give_counts-requires
-give_counts-requires c = (refl, c.requires.0.counts, part-fits _ Route _ _ c.requires.1 c.route-1.given)
+give_counts-requires c = (refl, c.requires.0.counts, part-fits _ Route _ _ c.requires.1 c.make_trip-end.auto.route)
 
 pub returns-clause-fact : goal.returns-clause-fact
 returns-clause-fact c =
     let a = c.args in
     let d = desk a.sizes a.lent a.counts.now a.numbers.now a.bytes.now in
     travelled_as d c.counts_of-tails.ensures c.counts_of-heads.ensures c.counts_of-weights.ensures c.bytes_of-closures.ensures
-        c.numbers_of-x.ensures c.numbers_of-y.ensures c.numbers_of-boxes.ensures c.requires.1
-        c.make_trip-end.ensures.fact c.give_counts.ensures
+    c.numbers_of-x.ensures c.numbers_of-y.ensures c.numbers_of-boxes.ensures c.requires.1
+    c.make_trip-end.ensures.fact c.give_counts.ensures

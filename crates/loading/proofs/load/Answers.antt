@@ -12,7 +12,11 @@ load_places-requires c =
     ((read_gr_limits _ _ _ _ _ _ _ _ _ _ _ read).arcs, c.requires.1)
 
 pub returns-in-Read-clause-loads : goal.returns-in-Read-clause-loads
-returns-in-Read-clause-loads c = let read = rw c.in-Read.is at c.read_gr-reply.ensures in on_graph _ c.in-Bytes.is read c.load_places.ensures.fact
+returns-in-Read-clause-loads c =
+    let read = rw c.in-Read.is at c.read_gr-reply.ensures in
+    on_graph _ c.in-Bytes.is read c.load_places.ensures.fact
 
 pub returns-in-Refused-clause-loads : goal.returns-in-Refused-clause-loads
-returns-in-Refused-clause-loads c = let read = rw c.in-Refused.is at c.read_gr-reply.ensures in bad_graph _ c.in-Bytes.is read
+returns-in-Refused-clause-loads c =
+    let read = rw c.in-Refused.is at c.read_gr-reply.ensures in
+    bad_graph _ c.in-Bytes.is read

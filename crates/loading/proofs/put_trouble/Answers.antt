@@ -8,8 +8,10 @@ use Rattle.loading.proofs.put_trouble.Goals as goal
 
 pub returns-in-Unread-clause-puts : goal.returns-in-Unread-clause-puts
 unfolding trouble_text bytes
-returns-in-Unread-clause-puts c = puts_case (λ (t : Trouble). trouble_text t ++ c.args.end.now) c.in-Unread.is (puts_both c.put-a.ensures c.put.ensures)
+returns-in-Unread-clause-puts c =
+    puts_case (λ (t : Trouble). trouble_text t ++ c.args.end.now) c.in-Unread.is (puts_both c.put-a.ensures c.put.ensures)
 
 pub returns-in-Refused-clause-puts : goal.returns-in-Refused-clause-puts
 unfolding trouble_text bytes
-returns-in-Refused-clause-puts c = puts_case (λ (t : Trouble). trouble_text t ++ c.args.end.now) c.in-Refused.is (puts_both c.put_place-a.ensures.puts c.put-in-Refused.ensures)
+returns-in-Refused-clause-puts c =
+    puts_case (λ (t : Trouble). trouble_text t ++ c.args.end.now) c.in-Refused.is (puts_both c.put_place-a.ensures.puts c.put-in-Refused.ensures)

@@ -8,10 +8,10 @@ use Rattle.desk.proofs.RequestLaws.{places_as}
 use Rattle.plans.proofs.reading.places_in.Goals as goal
 
 pub give_numbers-requires : goal.give_numbers-requires
-give_numbers-requires c = (refl, c.requires.0, part-fits _ X _ _ c.requires.1 c.x-1.given)
+give_numbers-requires c = (refl, c.requires.0, part-fits _ X _ _ c.requires.1 c.read_places-end.auto.x)
 
 pub give_numbers-requires-2 : goal.give_numbers-requires-2
-give_numbers-requires-2 c = (refl, omega (arith, c.requires.0, c.numbers-1.given), part-fits _ Y _ _ c.requires.2 c.y-1.given)
+give_numbers-requires-2 c = (refl, omega arith, part-fits _ Y _ _ c.requires.2 c.read_places-end.auto.y)
 
 pub returns-clause-fact : goal.returns-clause-fact
 returns-clause-fact c =

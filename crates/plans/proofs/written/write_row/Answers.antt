@@ -20,4 +20,4 @@ returns-clause-fact c =
     -- the lent places of the row lie in the store
     let room : s.result.start + c.lent_at.result ≤ length a.bytes.now = omega (arith, lies, c.lent_at.ensures) in
     written_as d s.result s.ensures.value s.ensures.lies c.lent_at.result c.lent_at.ensures c.write_rows-reply.ensures (search rules)
-        c.put_written.ensures.puts
+    c.put_written.ensures.puts
