@@ -31,8 +31,8 @@ def say(words: str) -> None:
     print(f"bench/run: {words}", file=sys.stderr)
 
 
-def command(words: list[str | Path]) -> str:
-    done = subprocess.run([str(word) for word in words], stdin=subprocess.DEVNULL, stdout=subprocess.PIPE, text=True, cwd=TOP)
+def command(words: list[str | Path], where: Path = TOP) -> str:
+    done = subprocess.run([str(word) for word in words], stdin=subprocess.DEVNULL, stdout=subprocess.PIPE, text=True, cwd=where)
     if done.returncode != 0:
         raise Unable(f"`{' '.join(map(str, words))}` ended with status {done.returncode}\n{done.stdout}")
     return done.stdout
@@ -87,8 +87,9 @@ def peers(level: str) -> Path:
 
 def proved_console() -> Path:
     say("proving and building the console first, where that is not done")
-    command(["rt", "run", "console"])
-    return TOP / "crates" / "console" / "out" / "console"
+    folder = TOP / "crates" / "console"
+    command(["rt", "run"], folder)
+    return folder / "out" / "console"
 
 
 def functions(program: Path) -> str:

@@ -91,8 +91,12 @@ fn save_by(rt: &impl Files, name: &mut [u8], path: &[u8], text: &[u8]) -> bool
     false
 }
 
-// Saves a text as the file of this path, and answers whether it is saved; where it is not, an old file stays as it was.
+// Saves a text as the file of this path, and answers whether it is saved; where it is not, an old file stays as it was. A path
+// that is not UTF-8 names no file.
 pub fn save_file(rt: &impl Files, path: &[u8], text: &[u8]) -> bool {
+    if str::from_utf8(path).is_err() {
+        return false;
+    }
     let folder = folder_end(path);
     if 4086 < folder {
         return false;
