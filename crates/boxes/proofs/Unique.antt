@@ -2,11 +2,10 @@
 use Prim.Native.Nat.{ℕ}
 use mathlib.Core.Path.{◌≡◌, refl, ap}
 use mathlib.Core.List.{List, ◌++◌}
-use native.Mathlib.Omega.{arith}
 use Rattle.scan.specs.Ascii.{bytes}
 use Rattle.files.specs.File.{Held}
 use Rattle.loading.specs.Loading.{trouble_text}
-use Rattle.loading.specs.declared.Trouble.{Trouble}
+use Rattle.loading.specs.declared.trouble.Trouble.{Trouble}
 use Rattle.loading.proofs.Unique.{loads_unique}
 use Rattle.boxes.specs.Prints.{Prints, graph, places, listed}
 
@@ -15,15 +14,11 @@ line e = ap (λ (t : Trouble). trouble_text t ++ bytes "\n") e
 
 pub prints_unique : {gr co : Held} {printed printed' : List ℕ} → Prints gr co printed → Prints gr co printed' → printed ≡ printed'
 prints_unique (graph {t = t} l) (graph {t = t'} l') = let e = (loads_unique l l').0 in let same : t ≡ t' = cc in line same
-prints_unique (graph l) (places l') = let e = (loads_unique l l').0 in let z : ◌≡◌ {A = ℕ} 0 1 = cc in absurd (omega arith)
-prints_unique (graph l) (listed l') = let e = (loads_unique l l').0 in let z : ◌≡◌ {A = ℕ} 0 1 = cc in absurd (omega arith)
-prints_unique (places l) (graph l') = let e = (loads_unique l l').0 in let z : ◌≡◌ {A = ℕ} 0 1 = cc in absurd (omega arith)
+prints_unique (graph l) (places l') = let e = (loads_unique l l').0 in cc
+prints_unique (graph l) (listed l') = let e = (loads_unique l l').0 in cc
+prints_unique (places l) (graph l') = let e = (loads_unique l l').0 in cc
 prints_unique (places {t = t} l) (places {t = t'} l') = let e = (loads_unique l l').0 in let same : t ≡ t' = cc in line same
-prints_unique (places l) (listed l') = let e = (loads_unique l l').0 in let z : ◌≡◌ {A = ℕ} 0 1 = cc in absurd (omega arith)
-prints_unique (listed l) (graph l') = let e = (loads_unique l l').0 in let z : ◌≡◌ {A = ℕ} 0 1 = cc in absurd (omega arith)
-prints_unique (listed l) (places l') = let e = (loads_unique l l').0 in let z : ◌≡◌ {A = ℕ} 0 1 = cc in absurd (omega arith)
-prints_unique (listed {n = n} {m = m} l) (listed {n = n'} {m = m'} l') =
-    let same = loads_unique l l' in
-    let sizes = same.0 in
-    let arcs : m ≡ m' = cc in
-    rw (arcs, same.1 n m refl)
+prints_unique (places l) (listed l') = let e = (loads_unique l l').0 in cc
+prints_unique (listed l) (graph l') = let e = (loads_unique l l').0 in cc
+prints_unique (listed l) (places l') = let e = (loads_unique l l').0 in cc
+prints_unique (listed l) (listed l') = rw ((loads_unique l l').1 refl)

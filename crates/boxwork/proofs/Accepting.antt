@@ -7,8 +7,7 @@ use lib.IntN.{ℤ}
 use Rattle.rules.specs.Paper.{Reply, accepted, refusal}
 use Rattle.rules.proofs.PaperLaws.{refusal_nonzero}
 use Rattle.rules.specs.declared.Asked.{Asked}
-use Rattle.rules.specs.declared.Judged.{Judged}
-use Rattle.rules.specs.declared.Judged.TheVariants.{Fine}
+use Rattle.rules.specs.Judging.{Judged, fine}
 use Rattle.rules.specs.declared.Refusal.{Refusal}
 use Rattle.rules.specs.declared.Refusal.TheVariants.{Misses}
 use Rattle.walks.specs.Walk.{Net}
@@ -32,14 +31,14 @@ refusal_other : (r : Refusal) {results : List ℕ} → refusal r ≡ accepted re
 refusal_other r e = refusal_nonzero r (ap (λ (z : Reply). z.number) (sym e))
 
 module _ {judged : Judged} {N : Net} {asked : Asked} {G : Signs} where
-  pub check_accepts : {reply : Reply} → Checks judged N asked G reply → reply ≡ accepted [] → (judged ≡ Fine) × Consistent N (Keeps asked G)
+  pub check_accepts : {reply : Reply} → Checks judged N asked G reply → reply ≡ accepted [] → (judged ≡ fine) × Consistent N (Keeps asked G)
   check_accepts (Checks.refused {r = r} e) p = absurd (refusal_other r p)
   check_accepts (Checks.consistent f c) p = (f, c)
   check_accepts (Checks.box_missed {e = e} {t = t} f d) p = absurd (refusal_other (Misses e t) p)
   check_accepts (Checks.mask_missed {e = e} {t = t} f c d) p = absurd (refusal_other (Misses e t) p)
 
   pub build_accepts : {m : ℕ} {reply : Reply} {boxes : List ℤ} {masks : List ℕ} → Builds judged N m asked G reply boxes masks → reply ≡ accepted []
-      → (judged ≡ Fine)
+      → (judged ≡ fine)
       × DrawnIf asked.boxes box_row m (λ e old new. Tight N G.x G.y e new) G.boxes boxes
       × DrawnIf asked.masks mask_row m (λ e old new. MaskOf N G.modules e new) G.masks masks
   build_accepts (Builds.refused {r = r} e) p = absurd (refusal_other r p)
@@ -47,7 +46,7 @@ module _ {judged : Judged} {N : Net} {asked : Asked} {G : Signs} where
 
 pub update_accepts : {judged : Judged} {R R' left : Rows} {N : Net} {m : ℕ} {x y boxes after : List ℤ} {reply : Reply}
     → Updates judged R R' N m x y boxes reply left after → reply ≡ accepted []
-    → (judged ≡ Fine) × (left ≡ R') × Drawn box_row m (Updated N x y) boxes after
+    → (judged ≡ fine) × (left ≡ R') × Drawn box_row m (Updated N x y) boxes after
 update_accepts (Updates.refused {r = r} e) p = absurd (refusal_other r p)
 update_accepts (Updates.updated f d) p = (f, refl, d)
 

@@ -6,7 +6,7 @@ use mathlib.Core.List.{List}
 use native.Mathlib.Omega.{arith}
 use Rattle.rules.specs.Paper.{Reply}
 use Rattle.rules.proofs.PaperLaws.{refusal_nonzero}
-use Rattle.rules.specs.declared.Judged.{Judged}
+use Rattle.rules.specs.Judging.{Judged}
 use Rattle.rules.specs.declared.Refusal.TheVariants.{NoWalk}
 use Rattle.walks.specs.Walk.{Net}
 use Rattle.walks.specs.Least.{Reached}

@@ -9,8 +9,7 @@ use lib.ListN.{length}
 use lib.Seq.{set-get_or}
 use Rattle.rules.specs.Judging.{in_turn}
 use Rattle.rules.specs.Paper.{Reply, accepted}
-use Rattle.rules.specs.declared.Judged.{Judged}
-use Rattle.rules.specs.declared.Judged.TheVariants.{Fine}
+use Rattle.rules.specs.Judging.{Judged, fine}
 use Rattle.walks.specs.Walk.{Net}
 use Rattle.walks.specs.Rows.{Rows, at, laid, network}
 use Rattle.walks.proofs.RowsLaws.{open_network}
@@ -61,7 +60,7 @@ module _ (n m : ℕ) (R : Rows) where
       same_network : at R.closures arc ≡ 0 → network m (changed R arc weight 0) ≡ laid m (reweighted R arc weight)
       same_network h = rw (same_rows h) (open_network m (reweighted R arc weight) o.all)
 
-      open_arc : update_judged boxes_alone n m R (box_signs x y boxes) arc weight 0 ≡ Fine → at R.closures arc ≡ 0
+      open_arc : update_judged boxes_alone n m R (box_signs x y boxes) arc weight 0 ≡ fine → at R.closures arc ≡ 0
       open_arc f = let u = update_fine boxes_alone n m R (box_signs x y boxes) arc weight 0 f in o.all arc u.1 u.2
 
       alike : update_judged boxes_alone n m R (box_signs x y boxes) arc weight 0 ≡ in_turn (shaped_by (arcs_judged n m R) n m boxes_alone (box_signs x y boxes) true ∷ reweighing m arc weight ∷ [])

@@ -8,7 +8,7 @@ use lib.IntN.{ℤ}
 use lib.ListN.{length, get_or-append}
 use lib.Seq.{get_or-set_same}
 use Rattle.rules.specs.Paper.{Reply, accepted}
-use Rattle.rules.specs.declared.Judged.{Judged}
+use Rattle.rules.specs.Judging.{Judged}
 use Rattle.rules.specs.declared.Refusal.TheVariants.{NoWalk}
 use Rattle.rules.proofs.PaperLaws.{refusal_nonzero}
 use Rattle.walks.specs.Walk.{Net}

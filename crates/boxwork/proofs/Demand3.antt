@@ -6,7 +6,7 @@ use native.Mathlib.Omega.{arith}
 use lib.IntN.{ℤ}
 use lib.ListN.{length}
 use Rattle.rules.specs.declared.Asked.{Asked}
-use Rattle.rules.specs.declared.Judged.{Judged}
+use Rattle.rules.specs.Judging.{Judged}
 use Rattle.walks.specs.Rows.{Rows, network}
 use Rattle.walks.proofs.ThroughLaws.{InS_begins, begins_InS}
 use Rattle.walks.proofs.Pruning.{pruning}

@@ -10,11 +10,11 @@ use borrow.Author.Tests.{not-true}
 use lib.IntN.{ℤ}
 use Rattle.rules.specs.Paper.{accepted}
 use Rattle.rules.specs.declared.Asked.{Asked}
-use Rattle.rules.specs.declared.Judged.TheVariants.{Fine}
+use Rattle.rules.specs.Judging.{fine}
 use Rattle.walks.specs.Rows.{Rows, Sound, is_open, network}
 use Rattle.walks.specs.Through.{InS, Consistent}
 use Rattle.walks.specs.Checking.{Misses, FirstMissed}
-use Rattle.settling.proofs.Choice.{either}
+use Rattle.std.proofs.lemmas.Bool.{cases_Bool}
 use Rattle.rules.proofs.AndLaws.{and_true, and_yes}
 use Rattle.settling.proofs.LengthsAndS.{test_InS, InS_test}
 use Rattle.geometry.specs.Box.{Box, Holds, mark, WellShaped, nothing, Smallest}
@@ -155,7 +155,7 @@ module _ {n m : ℕ} {R : Rows} (sound : Sound n m R) where
         let r = InS_range sound i in
         ⊎_elim (λ h. (passes-keeps asked G e t R.closures (λ k. (numbers k t r.2 r.3).0) h).0)
         (λ h. absurd (false≢true (sym p ∙ and_yes (InS_leads t e r.2 r.3 r.0 r.1 i) (ap not h))))
-        (either (Passed e t))
+        (cases_Bool (Passed e t))
 
     pub missed_first : {e t : ℕ} → Lowest (misses_node R n m asked G) n m e t → FirstMissed (network m R) (Keeps asked G) e t
     missed_first {e} {t} l = record {
@@ -173,11 +173,11 @@ module _ {n m : ℕ} {R : Rows} (sound : Sound n m R) where
 
 -- an update that was judged fine, wrote weight and closure, and grew the boxes
 pub updated_says : (n : ℕ) {m : ℕ} (R : Rows) {R' : Rows} {x y before after : List ℤ} (arc weight closure : ℕ)
-    → update_judged boxes_alone n m R (box_signs x y before) arc weight closure ≡ Fine → R' ≡ changed R arc weight closure
+    → update_judged boxes_alone n m R (box_signs x y before) arc weight closure ≡ fine → R' ≡ changed R arc weight closure
     → Drawn box_row m (AddedAll (leads_to R' n m) (add_place x y) n) before after
     → UpdateSays n m R x y before arc weight closure (accepted []) R' after
-updated_says n {m} R {x = x} {y = y} {before = before} arc weight closure fine wrote all =
-    let u = update_fine boxes_alone n m R (box_signs x y before) arc weight closure fine in
+updated_says n {m} R {x = x} {y = y} {before = before} arc weight closure passed wrote all =
+    let u = update_fine boxes_alone n m R (box_signs x y before) arc weight closure passed in
     let k = check_fine boxes_alone n m R (box_signs x y before) u.0 in
     let sound = sound_changed k.lent.sound arc weight closure u.1 u.2 u.3 in
-    rw wrote (Updates.updated fine (updated_by sound x y (k.lent.places refl).places (k.shaped refl) (rw wrote at all)))
+    rw wrote (Updates.updated passed (updated_by sound x y (k.lent.places refl).places (k.shaped refl) (rw wrote at all)))

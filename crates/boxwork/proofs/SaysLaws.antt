@@ -6,7 +6,7 @@ use native.Mathlib.Omega.{arith}
 use lib.IntN.{ℤ}
 use Rattle.rules.specs.Paper.{Reply}
 use Rattle.rules.specs.declared.Asked.{Asked}
-use Rattle.rules.specs.declared.Judged.{Judged}
+use Rattle.rules.specs.Judging.{Judged}
 use Rattle.walks.specs.Walk.{Net}
 use Rattle.walks.specs.Rows.{Rows}
 use Rattle.walks.proofs.CheckingLaws.{missed_arc, missed_node, consistent_misses}

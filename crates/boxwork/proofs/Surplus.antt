@@ -16,7 +16,7 @@ use Rattle.walks.specs.Through.{InS, Consistent}
 use Rattle.walks.specs.Checking.{Misses, FirstMissed}
 use Rattle.geometry.specs.Box.{Box}
 use Rattle.walks.proofs.Alike.{other_way, InS_alike}
-use Rattle.settling.proofs.Choice.{either}
+use Rattle.std.proofs.lemmas.Bool.{cases_Bool}
 use Rattle.passing.specs.Signs.{Signs, boxes_alone, box_signs}
 use Rattle.passing.specs.Passing.{Keeps}
 use Rattle.judging.specs.Order.{update_judged}
@@ -76,7 +76,7 @@ module _ {K : Kind} {m : ℕ} (same : EntryCut K m) {Is Js : ℕ → K.Entry →
       → DrawnIf asked K m Js (take (K.places * m) before) (take (K.places * m) after) × (drop (K.places * m) after ≡ drop (K.places * m) before)
   if_cut {asked} h d = (
     record { drawn = λ x. (drawn_cut h (d.drawn x)).0; kept = λ x. ap (take (K.places * m)) (d.kept x) },
-    elim (either asked) [ inl x ↦ (drawn_cut h (d.drawn x)).1 | inr x ↦ ap (drop (K.places * m)) (d.kept x) ],
+    elim (cases_Bool asked) [ inl x ↦ (drawn_cut h (d.drawn x)).1 | inr x ↦ ap (drop (K.places * m)) (d.kept x) ],
   )
 
 -- ---- Boxes and masks, and what they keep

@@ -4,7 +4,7 @@
 use Rattle.std.specs.Prelude.{ℕ, ◌≤◌, ◌≡◌, ◌↔◌, List, [], ◌∷◌, ◌++◌, ℤ, length, drop}
 use Rattle.rules.specs.Paper.{Reply, accepted, refusal}
 use Rattle.rules.specs.declared.Asked.{Asked}
-use Rattle.rules.specs.declared.Judged.TheVariants.{Fine}
+use Rattle.rules.specs.Judging.{fine}
 use Rattle.rules.specs.declared.Refusal.{Refusal}
 use Rattle.rules.specs.declared.Refusal.TheVariants.{NoWalk}
 use Rattle.walks.specs.Least.{Reached}
@@ -41,7 +41,7 @@ module _ (asked : Asked) (n m : ℕ) (R : Rows) (G : Signs) where
   -- 1. "The check says yes exactly when each track's rectangle holds every block end to which some shortest chain from that
   -- track's start begins with it." Nothing before 13 refuses then. `check_exactly`
   abbrev pub CheckExactly : Type 0
-  CheckExactly = CheckBy asked n m R G (accepted []) ↔ ((check_judged asked n m R G ≡ Fine) × HoldsAll asked m R G)
+  CheckExactly = CheckBy asked n m R G (accepted []) ↔ ((check_judged asked n m R G ≡ fine) × HoldsAll asked m R G)
 
   -- 2. "After a yes, every search that uses them gives the same length and route as a search with none," whatever rows the two
   -- are lent for the route, if both have the n places that a search needs, or neither. `after_yes`
@@ -55,7 +55,7 @@ module _ (asked : Asked) (n m : ℕ) (R : Rows) (G : Signs) where
   abbrev pub NoRouteExactly : Type 0
   NoRouteExactly =
       CheckBy asked n m R G (accepted []) → (s t : ℕ) (before after : List ℕ) (reply : Reply)
-      → search_judged asked n m R G s t (length before) ≡ Fine
+      → search_judged asked n m R G s t (length before) ≡ fine
       → SearchBy asked n m R G s t before reply after → NoRoute reply ↔ (¬ Reached (network m R) s t)
 
   -- 4. "Rectangles the box builds or updates always get a yes": those that it builds, `build_yes`

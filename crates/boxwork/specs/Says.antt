@@ -1,9 +1,8 @@
 -- What build, check and update say: for each the one relation between what is lent, the reply and the rows afterwards.
-use Rattle.std.specs.Prelude.{ℕ, ◌-◌, ◌≡◌, false, List, [], ℤ, set}
+use Rattle.std.specs.Prelude.{ℕ, ◌-◌, ◌≡◌, false, List, [], ℤ, set, Err}
 use Rattle.rules.specs.Paper.{Reply, accepted, refusal}
 use Rattle.rules.specs.declared.Asked.{Asked}
-use Rattle.rules.specs.declared.Judged.{Judged}
-use Rattle.rules.specs.declared.Judged.TheVariants.{Fine, Refused}
+use Rattle.rules.specs.Judging.{Judged, fine}
 use Rattle.rules.specs.declared.Refusal.{Refusal}
 use Rattle.rules.specs.declared.Refusal.TheVariants.{Misses}
 use Rattle.walks.specs.Walk.{Net}
@@ -22,8 +21,8 @@ use Rattle.judging.specs.Order.{build_judged, check_judged, update_judged}
 -- Build: the tight boxes and the masks of the arcs 1..m stand in the rows, each where it is asked; their other places, and a row
 -- that is not asked, keep their contents. A refusal leaves both rows as they were.
 pub data Builds (judged : Judged) (N : Net) (m : ℕ) (asked : Asked) (G : Signs) : Reply → List ℤ → List ℕ → Type 0 where
-  refused : {r : Refusal} → judged ≡ Refused r → Builds judged N m asked G (refusal r) G.boxes G.masks
-  built : {boxes : List ℤ} {masks : List ℕ} → judged ≡ Fine
+  refused : {r : Refusal} → judged ≡ Err r → Builds judged N m asked G (refusal r) G.boxes G.masks
+  built : {boxes : List ℤ} {masks : List ℕ} → judged ≡ fine
       → DrawnIf asked.boxes box_row m (λ e old new. Tight N G.x G.y e new) G.boxes boxes
       → DrawnIf asked.masks mask_row m (λ e old new. MaskOf N G.modules e new) G.masks masks
       → Builds judged N m asked G (accepted []) boxes masks
@@ -37,17 +36,17 @@ masks_of asked = record { boxes = false; masks = asked.masks }
 
 -- Check: yes where what is asked is consistent, else 13 with the lowest arc and then its lowest missed node, boxes first
 pub data Checks (judged : Judged) (N : Net) (asked : Asked) (G : Signs) : Reply → Type 0 where
-  refused : {r : Refusal} → judged ≡ Refused r → Checks judged N asked G (refusal r)
-  consistent : judged ≡ Fine → Consistent N (Keeps asked G) → Checks judged N asked G (accepted [])
-  box_missed : {e t : ℕ} → judged ≡ Fine → FirstMissed N (Keeps (boxes_of asked) G) e t → Checks judged N asked G (refusal (Misses e t))
-  mask_missed : {e t : ℕ} → judged ≡ Fine → Consistent N (Keeps (boxes_of asked) G) → FirstMissed N (Keeps (masks_of asked) G) e t
+  refused : {r : Refusal} → judged ≡ Err r → Checks judged N asked G (refusal r)
+  consistent : judged ≡ fine → Consistent N (Keeps asked G) → Checks judged N asked G (accepted [])
+  box_missed : {e t : ℕ} → judged ≡ fine → FirstMissed N (Keeps (boxes_of asked) G) e t → Checks judged N asked G (refusal (Misses e t))
+  mask_missed : {e t : ℕ} → judged ≡ fine → Consistent N (Keeps (boxes_of asked) G) → FirstMissed N (Keeps (masks_of asked) G) e t
       → Checks judged N asked G (refusal (Misses e t))
 
 -- Update from the rows R to the rows R', whose network is N: each box is the smallest that holds its old box and its tight box in N.
 -- The other places of the row keep their contents. A refusal leaves all rows as they were.
 pub data Updates (judged : Judged) (R R' : Rows) (N : Net) (m : ℕ) (x y before : List ℤ) : Reply → Rows → List ℤ → Type 0 where
-  refused : {r : Refusal} → judged ≡ Refused r → Updates judged R R' N m x y before (refusal r) R before
-  updated : {after : List ℤ} → judged ≡ Fine → Drawn box_row m (Updated N x y) before after
+  refused : {r : Refusal} → judged ≡ Err r → Updates judged R R' N m x y before (refusal r) R before
+  updated : {after : List ℤ} → judged ≡ fine → Drawn box_row m (Updated N x y) before after
       → Updates judged R R' N m x y before (accepted []) R' after
 
 -- ---- What the functions say, over the network of the open arcs

@@ -4,178 +4,99 @@
 ghost use Rattle.std.specs.Prelude.{◌≡◌, true, ◌-◌, ◌≤◌, length, set};
 ghost use Rattle.rules.specs.Paper.{judged_reply};
 ghost use Rattle.geometry.specs.Row.{Shaped};
-ghost use Rattle.walks.specs.Rows.{rows, network, Sound};
+ghost use Rattle.walks.specs.Rows.{rows, network};
+ghost use Rattle.walks.specs.Lent.{rows_of};
+ghost use Rattle.walks.specs.Judged.{rows_in};
 ghost use Rattle.passing.specs.Signs.{signs};
 ghost use Rattle.passing.specs.Asking.{Lent};
+ghost use Rattle.passing.specs.Lent.{signs_of};
 ghost use Rattle.boxwork.specs.Says.{BuildBy, BuildSays, CheckBy, UpdateSays};
 ghost use Rattle.boxwork.specs.Missing.{Missing};
 
 use drawing::compare::{Miss, find_miss};
-use rules::{Asked, Judged, Refusal};
+use drawing::gather::{empty_boxes, empty_masks, gather_all};
+use passing::{Nodes, Signs};
+use rules::{Asked, Change, Refusal};
+use walks::Network;
+use walks::tracks::Tracks;
 
 // Build writes what is asked: the tight boxes, each the smallest that holds its S(e), or the mark where S(e) is empty; the masks, each
 // with the modules of its S(e).
 pub fn build(
     asked: Asked,
-    n: u32,
-    m: u32,
-    tails: &[u32],
-    heads: &[u32],
-    weights: &[u32],
-    closures: &[u8],
-    x: &[i32],
-    y: &[i32],
+    net: Network,
+    nodes: Nodes,
     boxes: &mut [i32],
-    modules: &[u32],
     masks: &mut [u32],
-) -> Judged
-    ensures { BuildBy asked n m (rows tails.now heads.now weights.now closures.now) (signs x.now y.now boxes.old modules.now masks.old) (judged_reply result) boxes.new masks.new }
+) -> Result<(), Refusal>
+    ensures { BuildBy asked net.entry.n net.entry.m (rows_of net.entry) (signs nodes.entry.x.now nodes.entry.y.now boxes.old nodes.entry.modules.now masks.old) (judged_reply result) boxes.new masks.new }
 {
-    let j = judging::judge_build(
-        asked, n, m, tails, heads, weights, closures, x, y, boxes, modules, masks,
-    );
-    let Judged::Fine = j else {
-        return j;
+    let signs = Signs {
+        nodes,
+        boxes,
+        masks,
     };
-    drawing::gather::empty_boxes(asked.boxes, m as usize, boxes);
-    drawing::gather::empty_masks(asked.masks, m as usize, masks);
-    drawing::gather::gather_all(
-        asked, n as usize, m as usize, tails, heads, weights, closures, x, y, boxes, modules, masks,
-    );
-    Judged::Fine
+    judging::judge_build(asked, net, signs)?;
+    let tracks = net.tracks();
+    empty_boxes(asked.boxes, tracks.m, boxes);
+    empty_masks(asked.masks, tracks.m, masks);
+    gather_all(asked, tracks, nodes, boxes, masks);
+    Ok(())
 }
 
 // Build of boxes alone, for who has no modules.
-pub fn build_boxes(
-    n: u32,
-    m: u32,
-    tails: &[u32],
-    heads: &[u32],
-    weights: &[u32],
-    closures: &[u8],
-    x: &[i32],
-    y: &[i32],
-    boxes: &mut [i32],
-) -> Judged
-    ensures { BuildSays n m (rows tails.now heads.now weights.now closures.now) x.now y.now boxes.old (judged_reply result) boxes.new }
+pub fn build_boxes(net: Network, x: &[i32], y: &[i32], boxes: &mut [i32]) -> Result<(), Refusal>
+    ensures { BuildSays net.entry.n net.entry.m (rows_of net.entry) x.now y.now boxes.old (judged_reply result) boxes.new }
 {
-    let asked = Asked {
-        boxes: true,
-        masks: false,
-    };
-    let modules = [0u32; 1];
-    let mut masks = [0u32; 1];
-    build(
-        asked, n, m, tails, heads, weights, closures, x, y, boxes, &modules, &mut masks,
-    )
+    let nodes = Nodes { x, y, modules: &[] };
+    build(Asked::BOXES, net, nodes, boxes, &mut [])
 }
 
 // 13 where a box or a mask that is asked misses a node of its S(e), with the lowest arc, and then its lowest missed node.
-fn judge_misses(
-    asked: Asked,
-    n: usize,
-    m: usize,
-    tails: &[u32],
-    heads: &[u32],
-    weights: &[u32],
-    closures: &[u8],
-    x: &[i32],
-    y: &[i32],
-    boxes: &[i32],
-    modules: &[u32],
-    masks: &[u32],
-) -> Judged
-    requires { Sound n m (rows tails.now heads.now weights.now closures.now) × Lent asked n m (signs x.now y.now boxes.now modules.now masks.now) × (asked.boxes ≡ true → Shaped m boxes.now) }
-    ensures { Missing (network m (rows tails.now heads.now weights.now closures.now)) asked (signs x.now y.now boxes.now modules.now masks.now) result }
+fn judge_misses(asked: Asked, tracks: Tracks, signs: Signs) -> Result<(), Refusal>
+    requires { Lent asked tracks.n tracks.m (signs_of signs) × (asked.boxes ≡ true → Shaped tracks.m signs.boxes.now) }
+    ensures { Missing (network tracks.entry.m (rows_in tracks.entry)) asked (signs_of signs.entry) result }
 {
     if !(asked.boxes | asked.masks) {
-        return Judged::Fine;
+        return Ok(());
     }
-    let miss = find_miss(
-        asked, n, m, tails, heads, weights, closures, x, y, boxes, modules, masks,
-    );
-    let Miss::First { arc, node } = miss else {
-        return Judged::Fine;
-    };
-    Judged::Refused(Refusal::Misses { arc, node })
+    match find_miss(asked, tracks, signs) {
+        None => Ok(()),
+        Some(Miss { arc, node }) => Err(Refusal::Misses { arc, node }),
+    }
 }
 
 // Check accepts exactly what is consistent: each box and each mask that is asked keeps all of its S(e). Else 13, boxes first.
-pub fn check(
-    asked: Asked,
-    n: u32,
-    m: u32,
-    tails: &[u32],
-    heads: &[u32],
-    weights: &[u32],
-    closures: &[u8],
-    x: &[i32],
-    y: &[i32],
-    boxes: &[i32],
-    modules: &[u32],
-    masks: &[u32],
-) -> Judged
-    ensures { CheckBy asked n m (rows tails.now heads.now weights.now closures.now) (signs x.now y.now boxes.now modules.now masks.now) (judged_reply result) }
+pub fn check(asked: Asked, net: Network, signs: Signs) -> Result<(), Refusal>
+    ensures { CheckBy asked net.entry.n net.entry.m (rows_of net.entry) (signs_of signs.entry) (judged_reply result) }
 {
-    let j = judging::judge_check(
-        asked, n, m, tails, heads, weights, closures, x, y, boxes, modules, masks,
-    );
-    let Judged::Fine = j else {
-        return j;
-    };
+    judging::judge_check(asked, net, signs)?;
+    let tracks = net.tracks();
     let boxes_alone = Asked {
-        boxes: asked.boxes,
         masks: false,
+        ..asked
     };
-    let a = judge_misses(
-        boxes_alone,
-        n as usize,
-        m as usize,
-        tails,
-        heads,
-        weights,
-        closures,
-        x,
-        y,
-        boxes,
-        modules,
-        masks,
-    );
-    let Judged::Fine = a else {
-        return a;
-    };
+    judge_misses(boxes_alone, tracks, signs)?;
     let masks_alone = Asked {
         boxes: false,
-        masks: asked.masks,
+        ..asked
     };
-    judge_misses(
-        masks_alone,
-        n as usize,
-        m as usize,
-        tails,
-        heads,
-        weights,
-        closures,
-        x,
-        y,
-        boxes,
-        modules,
-        masks,
-    )
+    judge_misses(masks_alone, tracks, signs)
 }
 
 // An arc's new weight and its new closure are written.
-fn set_arc(weights: &mut [u32], closures: &mut [u8], arc: u32, weight: u32, closure: u8)
-    requires { (1 ≤ arc) × (arc ≤ length weights.old) × (arc ≤ length closures.old) }
-    ensures weights_after { weights.new ≡ set weights.old (arc - 1) weight }
-    ensures closures_after { closures.new ≡ set closures.old (arc - 1) closure }
+fn set_arc(weights: &mut [u32], closures: &mut [u8], change: Change)
+    requires { (1 ≤ change.arc) × (change.arc ≤ length weights.old) × (change.arc ≤ length closures.old) }
+    ensures weights_after { weights.new ≡ set weights.old (change.arc - 1) change.weight }
+    ensures closures_after { closures.new ≡ set closures.old (change.arc - 1) change.closure }
 {
-    let at = arc as usize - 1;
-    weights[at] = weight;
-    closures[at] = closure;
+    let at = change.arc as usize - 1;
+    weights[at] = change.weight;
+    closures[at] = change.closure;
 }
 
-// Update writes an arc's new weight and its new closure, and makes each box the smallest that holds its old box and its tight box in the new network.
+// Update writes an arc's new weight and its new closure, and makes each box the smallest that holds its old box and its tight box in
+// the new network. What it writes is lent row by row, beside what it only reads.
 pub fn update(
     n: u32,
     m: u32,
@@ -186,30 +107,30 @@ pub fn update(
     x: &[i32],
     y: &[i32],
     boxes: &mut [i32],
-    arc: u32,
-    weight: u32,
-    closure: u8,
-) -> Judged
-    ensures { UpdateSays n m (rows tails.now heads.now weights.old closures.old) x.now y.now boxes.old arc weight closure (judged_reply result) (rows tails.now heads.now weights.new closures.new) boxes.new }
+    change: Change,
+) -> Result<(), Refusal>
+    ensures { UpdateSays n m (rows tails.now heads.now weights.old closures.old) x.now y.now boxes.old change.arc change.weight change.closure (judged_reply result) (rows tails.now heads.now weights.new closures.new) boxes.new }
 {
-    // boxes alone are updated
-    let asked = Asked {
-        boxes: true,
-        masks: false,
+    let old = Network {
+        n,
+        m,
+        tails,
+        heads,
+        weights,
+        closures,
     };
-    let modules = [0u32; 1];
-    let mut masks = [0u32; 1];
-    let j = judging::judge_update(
-        asked, n, m, tails, heads, weights, closures, x, y, boxes, &modules, &masks, arc, weight,
-        closure,
-    );
-    let Judged::Fine = j else {
-        return j;
+    let signs = Signs::of_boxes(x, y, boxes);
+    judging::judge_update(Asked::BOXES, old, signs, change)?;
+    set_arc(weights, closures, change);
+    let new = Network {
+        n,
+        m,
+        tails,
+        heads,
+        weights,
+        closures,
     };
-    set_arc(weights, closures, arc, weight, closure);
-    drawing::gather::gather_all(
-        asked, n as usize, m as usize, tails, heads, weights, closures, x, y, boxes, &modules,
-        &mut masks,
-    );
-    Judged::Fine
+    let nodes = Nodes { x, y, modules: &[] };
+    gather_all(Asked::BOXES, new.tracks(), nodes, boxes, &mut []);
+    Ok(())
 }

@@ -2,14 +2,13 @@
 use Prim.Native.Nat.{ℕ}
 use mathlib.Core.Path.{◌≡◌, refl, ap}
 use mathlib.Core.List.{List}
-use native.Mathlib.Omega.{arith}
 use lib.IntN.{ℤ}
+use Rattle.std.proofs.Common.{Result}
 use Rattle.rules.proofs.PaperLaws.{judged_injective}
 use Rattle.walks.specs.Rows.{Rows}
 use Rattle.files.specs.File.{Held}
 use Rattle.commands.specs.declared.Call.{Call}
 use Rattle.dimacs.proofs.Unique.{read_gr_unique, read_co_unique}
-use Rattle.dimacs.specs.declared.GrReply.{GrReply}
 use Rattle.daylist.proofs.Claims.{day_unique}
 use Rattle.daylist.proofs.PaperLaws as daylist
 use Rattle.reasons.proofs.PaperLaws as reasons
@@ -19,8 +18,9 @@ use Rattle.search.proofs.SaysLaws.{says_unique}
 use Rattle.boxwork.proofs.SaysLaws.{build_unique, check_unique, update_unique}
 use Rattle.replies.specs.Replies.{judged_line, day_line, reason_line}
 use Rattle.calls.specs.Calls.{Given, with_boxes, with_route, Makes}
-use Rattle.calls.specs.Texts.{graph_line, graph_sizes, places_line, ReadsGraph, ReadsPlaces, RunsDay}
-use Rattle.calls.specs.declared.Sizes.{Sizes}
+use Rattle.calls.specs.Texts.{graph_line, graph_sizes, ReadsGraph, ReadsPlaces, RunsDay}
+use Rattle.rules.specs.declared.Refusal.{Refusal}
+use Rattle.rules.specs.declared.Sizes.{Sizes}
 
 -- ---- the calls
 
@@ -46,28 +46,28 @@ pub reads_graph_unique : {held : Held} {sizes next next' : Sizes} {R left left' 
     → ReadsGraph held sizes R reply next left → ReadsGraph held sizes R reply' next' left'
     → (reply ≡ reply') × (next ≡ next') × (left ≡ left')
 reads_graph_unique (ReadsGraph.no_file h) (ReadsGraph.no_file h') = (refl, refl, refl)
-reads_graph_unique (ReadsGraph.no_file h) (ReadsGraph.file r h' p) = let z : ◌≡◌ {A = ℕ} 0 1 = cc in absurd (omega arith)
-reads_graph_unique (ReadsGraph.file r h p) (ReadsGraph.no_file h') = let z : ◌≡◌ {A = ℕ} 0 1 = cc in absurd (omega arith)
+reads_graph_unique (ReadsGraph.no_file h) (ReadsGraph.file r h' p) = cc
+reads_graph_unique (ReadsGraph.file r h p) (ReadsGraph.no_file h') = cc
 reads_graph_unique {sizes = sizes} (ReadsGraph.file {bytes = bytes} r h p) (ReadsGraph.file {bytes = bytes'} r' h' p') =
     let same : bytes ≡ bytes' = cc in
     let e = read_gr_unique _ _ _ _ _ r r' _ _ _ _ _ _ _ _ (rw same at p) p' in
-    (ap graph_line e.0, ap (λ (g : GrReply). graph_sizes g sizes) e.0, rw (e.1, e.2, e.3, e.4))
+    (ap graph_line e.0, ap (λ (g : Result Sizes Refusal). graph_sizes g sizes) e.0, rw (e.1, e.2, e.3, e.4))
 
 pub reads_places_unique : {held : Held} {n : ℕ} {x y : List ℤ} {reply reply' : List ℕ} {a a' b b' : List ℤ}
     → ReadsPlaces held n x y reply a b → ReadsPlaces held n x y reply' a' b' → (reply ≡ reply') × (a ≡ a') × (b ≡ b')
 reads_places_unique (ReadsPlaces.no_file h) (ReadsPlaces.no_file h') = (refl, refl, refl)
-reads_places_unique (ReadsPlaces.no_file h) (ReadsPlaces.file r h' p) = let z : ◌≡◌ {A = ℕ} 0 1 = cc in absurd (omega arith)
-reads_places_unique (ReadsPlaces.file r h p) (ReadsPlaces.no_file h') = let z : ◌≡◌ {A = ℕ} 0 1 = cc in absurd (omega arith)
+reads_places_unique (ReadsPlaces.no_file h) (ReadsPlaces.file r h' p) = cc
+reads_places_unique (ReadsPlaces.file r h p) (ReadsPlaces.no_file h') = cc
 reads_places_unique (ReadsPlaces.file {bytes = bytes} r h p) (ReadsPlaces.file {bytes = bytes'} r' h' p') =
     let same : bytes ≡ bytes' = cc in
     let e = read_co_unique _ _ _ _ r r' _ _ _ _ (rw same at p) p' in
-    (ap places_line e.0, e.1, e.2)
+    (ap judged_line e.0, e.1, e.2)
 
 pub runs_day_unique : {held : Held} {sizes : Sizes} {R : Rows} {x y boxes : List ℤ} {answers left left' reply reply' : List ℕ}
     → RunsDay held sizes R x y boxes answers reply left → RunsDay held sizes R x y boxes answers reply' left' → (reply ≡ reply') × (left ≡ left')
 runs_day_unique (RunsDay.no_file h) (RunsDay.no_file h') = (refl, refl)
-runs_day_unique (RunsDay.no_file h) (RunsDay.file r h' p) = let z : ◌≡◌ {A = ℕ} 0 1 = cc in absurd (omega arith)
-runs_day_unique (RunsDay.file r h p) (RunsDay.no_file h') = let z : ◌≡◌ {A = ℕ} 0 1 = cc in absurd (omega arith)
+runs_day_unique (RunsDay.no_file h) (RunsDay.file r h' p) = cc
+runs_day_unique (RunsDay.file r h p) (RunsDay.no_file h') = cc
 runs_day_unique (RunsDay.file {bytes = bytes} r h p) (RunsDay.file {bytes = bytes'} r' h' p') =
     let same : bytes ≡ bytes' = cc in
     let e = day_unique _ _ _ _ _ _ _ _ (rw same at p) p' in

@@ -1,40 +1,31 @@
 -- The calls on a network: what each is replied, and what it leaves in its rows.
-use Rattle.std.specs.Prelude.{ℕ, true, false, List, ℤ}
+use Rattle.std.specs.Prelude.{ℕ, Bool, true, false, List, ℤ, Result}
 use Rattle.walks.specs.Rows as walks
+use Rattle.walks.specs.declared.Network.{Network}
 use Rattle.rules.specs.Paper.{judged_reply}
-use Rattle.rules.specs.declared.Judged.{Judged}
+use Rattle.rules.specs.Judging.{Judged}
+use Rattle.rules.specs.declared.Change.{Change}
+use Rattle.rules.specs.declared.Refusal.{Refusal}
+use Rattle.rules.specs.declared.Sizes.{Sizes}
 use Rattle.commands.specs.declared.Call.{Call}
 use Rattle.commands.specs.declared.Call.TheVariants as call
 use Rattle.search.specs.Says.{SearchSays, BoxedSays}
 use Rattle.search.specs.Paper.{paper}
-use Rattle.search.specs.declared.Answer.{Answer}
+use Rattle.search.specs.declared.Found.{Found}
 use Rattle.boxwork.specs.Says.{BuildSays, CheckSays, UpdateSays}
 use Rattle.reasons.specs.Says.{WhySays}
 use Rattle.reasons.specs.Paper as reasons
-use Rattle.reasons.specs.declared.WhyNot.{WhyNot}
+use Rattle.reasons.specs.declared.Reason.{Reason}
 use Rattle.replies.specs.Replies.{judged_line, answer_line, reason_line}
-use Rattle.calls.specs.declared.Sizes.{Sizes}
-use Rattle.calls.specs.declared.network.BoxWork.{BoxWork}
-use Rattle.calls.specs.declared.network.BoxWork.TheVariants as work
-use Rattle.calls.specs.declared.network.Trip.{Trip}
-use Rattle.calls.specs.declared.network.Trip.TheVariants as trip
-use Rattle.calls.specs.declared.network.Task.{Task}
-use Rattle.calls.specs.declared.network.Task.TheVariants as task
 
--- the call that box work, a search, either of them is
-abbrev pub work_call : BoxWork → Call
-work_call work.Build = call.Build
-work_call work.Check = call.Check
-work_call (work.Update arc weight closure) = call.Update arc weight closure
+-- the numbers n and m of a network that is lent
+abbrev pub sizes_of : Network → Sizes
+sizes_of N = record { n = N.n; m = N.m }
 
-abbrev pub trip_call : Trip → Call
-trip_call (trip.Search true s t) = call.Boxed s t
-trip_call (trip.Search false s t) = call.Search s t
-trip_call (trip.Why s t arc) = call.Why s t arc
-
-abbrev pub task_call : Task → Call
-task_call (task.Boxes w) = work_call w
-task_call (task.Route t) = trip_call t
+-- a search by boxes, or by all open arcs
+abbrev pub search_call : Bool → ℕ → ℕ → Call
+search_call true s t = call.Boxed s t
+search_call false s t = call.Search s t
 
 -- the contents of the rows that a call is given
 pub record Given : Type 0 where
@@ -81,15 +72,15 @@ pub data Makes (sizes : Sizes) (g : Given) : Call → List ℕ → Given → Typ
   check : (j : Judged)
       → CheckSays sizes.n sizes.m (arcs g) g.x g.y g.boxes (judged_reply j)
       → Makes sizes g call.Check (judged_line j) g
-  update : {arc weight closure : ℕ} (j : Judged) {R : walks.Rows} {boxes : List ℤ}
-      → UpdateSays sizes.n sizes.m (arcs g) g.x g.y g.boxes arc weight closure (judged_reply j) R boxes
-      → Makes sizes g (call.Update arc weight closure) (judged_line j) (with_boxes boxes (with_arcs R g))
-  search : {s t : ℕ} (a : Answer) {route : List ℕ}
+  update : {change : Change} (j : Judged) {R : walks.Rows} {boxes : List ℤ}
+      → UpdateSays sizes.n sizes.m (arcs g) g.x g.y g.boxes change.arc change.weight change.closure (judged_reply j) R boxes
+      → Makes sizes g (call.Update change) (judged_line j) (with_boxes boxes (with_arcs R g))
+  search : {s t : ℕ} (a : Result Found Refusal) {route : List ℕ}
       → SearchSays sizes.n sizes.m (arcs g) s t g.route (paper a) route
       → Makes sizes g (call.Search s t) (answer_line a route) (with_route route g)
-  boxed : {s t : ℕ} (a : Answer) {route : List ℕ}
+  boxed : {s t : ℕ} (a : Result Found Refusal) {route : List ℕ}
       → BoxedSays sizes.n sizes.m (arcs g) g.x g.y g.boxes s t g.route (paper a) route
       → Makes sizes g (call.Boxed s t) (answer_line a route) (with_route route g)
-  why : {s t arc : ℕ} (a : WhyNot)
+  why : {s t arc : ℕ} (a : Result Reason Refusal)
       → WhySays sizes.n sizes.m (arcs g) s t arc (reasons.paper a)
       → Makes sizes g (call.Why s t arc) (reason_line a) g

@@ -4,17 +4,3 @@
 pub mod network;
 pub mod texts;
 pub mod written;
-
-// The numbers that are handed in with the rows.
-#[derive(Clone, Copy)]
-pub struct Sizes {
-    pub n: u32,
-    pub m: u32,
-}
-
-// What is left: the numbers from now on, and where the reply ends on the page.
-#[derive(Drop)]
-pub struct Done {
-    pub sizes: Sizes,
-    pub end: usize,
-}

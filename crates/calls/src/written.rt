@@ -1,30 +1,25 @@
 // A text of rows, in another row.
 ghost use Rattle.walks.specs.Rows.{open_rows};
+ghost use Rattle.calls.specs.Calls.{sizes_of};
 ghost use Rattle.calls.specs.Writing.{TextWrites};
 
-use crate::Sizes;
 use commands::verbs::Format;
-use writing::WriteReply;
+use rules::Refusal;
+use walks::Network;
+use writing::{write_co, write_gr};
 
 // Writes the text of a kind of file.
 pub fn write_text(
     format: Format,
-    sizes: Sizes,
-    tails: &[u32],
-    heads: &[u32],
-    weights: &[u32],
+    net: Network,
     x: &[i32],
     y: &[i32],
     text: &mut [u8],
-) -> WriteReply
-    ensures { TextWrites format sizes (open_rows tails.now heads.now weights.now) x.now y.now text.old result text.new }
+) -> Result<usize, Refusal>
+    ensures { TextWrites format (sizes_of net.entry) (open_rows net.entry.tails.now net.entry.heads.now net.entry.weights.now) x.now y.now text.old result text.new }
 {
     match format {
-        Format::Gr => {
-            return writing::write_gr(sizes.n, sizes.m, tails, heads, weights, text);
-        }
-        Format::Co => {
-            return writing::write_co(sizes.n, x, y, text);
-        }
+        Format::Gr => write_gr(net.n, net.m, net.tails, net.heads, net.weights, text),
+        Format::Co => write_co(net.n, x, y, text),
     }
 }

@@ -1,28 +1,14 @@
--- Laws of the limits of 32 bits, by the tests of a number that is held.
-use mathlib.Core.Path.{◌≡◌, refl, sym, ap, ◌∙◌}
-use mathlib.Core.Bool.{Bool, true, false, cond}
-use Prim.Native.Nat.{ℕ, zero, suc, ◌+◌, ◌-◌, ◌≤◌, ◌<◌, min}
-use native.Mathlib.Decide.{dec_le}
-use native.Mathlib.Omega.{arith}
-use lib.Dec.{leb, leb→le}
-use lib.IntN.{pos, negsuc, neg_ℤ, ◌-ℤ◌, +ℤ_idl}
-use mir.Syntax.{w32}
+-- A number that is held beyond a limit of 32 bits is judged as the number itself.
+use Rattle.std.proofs.Common.{◌≡◌, refl, subst, ap, sym, ◌∙◌, ℕ, ◌≤◌, ◌<◌, min, ℤ, pos, negsuc, Bool, cond, leb, Option, Some, None, Result, Ok, Err, arith}
+use mir.Syntax.{w32, w64}
 use mir.Val.{SFits, to_z, of_z}
-use mir.Facts.{to_z_pos, to_z-of_z}
+use mir.Facts.{to_z-of_z}
+use native.Mathlib.Decide.{dec_le}
 use borrow.Author.Tests.{le-leb, lt-leb}
-use Rattle.scan.specs.Held.{held_natural, held_integer}
-use Rattle.scan.specs.declared.numbers.Natural.{Natural}
-use Rattle.scan.specs.declared.numbers.Natural.TheVariants.{Number, NoNumber}
-use Rattle.scan.specs.declared.numbers.Integer.{Integer}
-use Rattle.scan.specs.declared.numbers.Integer.TheVariants.{Plain, Minus, NoInteger}
-use Rattle.commands.specs.Numbers.{count_to, byte_of, signed_of}
+use Rattle.scan.specs.Held.{limited, held_natural, held_integer}
+use Rattle.commands.specs.Numbers.{count_to, signed_of}
 use Rattle.commands.specs.declared.Fault.{Fault}
-use Rattle.commands.specs.declared.Fault.TheVariants.{BeyondType}
-use Rattle.commands.specs.declared.numbers.Count.{Count}
-use Rattle.commands.specs.declared.numbers.Count.TheVariants as count
-use Rattle.commands.specs.declared.numbers.Signed.TheVariants as signed
-
--- ---- a number that is held beyond a limit is judged as the number itself
+use Rattle.commands.specs.declared.Fault.TheVariants.{Misspelt, BeyondType}
 
 within : {A : Type 0} (most top : ℕ) → most < top → (is : ℕ → A) (not : A) (v : ℕ) → cond (leb (min v top) most) (is (min v top)) not ≡ cond (leb v most) (is v) not
 within most top h is not v =
@@ -31,73 +17,59 @@ within most top h is not v =
       | no k ↦ rw (lt-leb (min v top) most (omega arith), lt-leb v most (omega arith))
     ]
 
-pub count_held : (most : ℕ) (n m : Natural) → most < 4294967296 → n ≡ held_natural m → count_to most n ≡ count_to most m
+pub count_held : (most : ℕ) (m : Option ℕ) → most < 10000000000 → count_to most (held_natural m) ≡ count_to most m
 unfolding held_natural count_to
-count_held most n (Number v) h e = rw e (within most 10000000000 (omega arith) count.Is (count.Not BeyondType) v)
-count_held most n NoNumber h e = rw e
+count_held most (Some v) h = within most 10000000000 h Ok (Err BeyondType) v
+count_held most None h = refl
 
-pub signed_held : (n m : Integer) → n ≡ held_integer m → signed_of n ≡ signed_of m
+pub signed_held : (m : Option ℤ) → signed_of (held_integer m) ≡ signed_of m
 unfolding held_integer signed_of
-signed_held n (Plain v) e = rw e (within 2147483647 10000000000 (omega arith) (λ x. signed.Is (pos x)) (signed.Not BeyondType) v)
-signed_held n (Minus v) e = rw e (within 2147483648 10000000000 (omega arith) (λ x. signed.Is (neg_ℤ (pos x))) (signed.Not BeyondType) v)
-signed_held n NoInteger e = rw e
+signed_held (Some (pos v)) = within 2147483647 10000000000 (omega arith) (λ x. Ok (pos x)) (Err BeyondType) v
+signed_held (Some (negsuc v)) = within 2147483647 9999999999 (omega arith) (λ x. Ok (negsuc x)) (Err BeyondType) v
+signed_held None = refl
 
--- ---- a number by the tests of its limits
+-- ---- a number by the tests of its limits: n is what was read, m what is spelt
 
-pub count_high : (most v : ℕ) → most < v → count.Not BeyondType ≡ count_to most (Number v)
-unfolding count_to
-count_high most v h = rw (lt-leb v most h)
+module _ (most : ℕ) (n m : Option ℕ) (low : most < 10000000000) (read : n ≡ held_natural m) where
+  pub count_misspelt : n ≡ None → Err Misspelt ≡ count_to most m
+  unfolding count_to
+  count_misspelt e = ap (count_to most) (sym e ∙ read) ∙ count_held most m low
 
-pub count_in_lem : (most v : ℕ) → v ≤ most → count.Is v ≡ count_to most (Number v)
-unfolding count_to
-count_in_lem most v h = rw (le-leb v most h)
+  pub count_beyond : (v : ℕ) → n ≡ Some v → most < v → Err BeyondType ≡ count_to most m
+  unfolding count_to
+  count_beyond v e h = sym (ap (λ b. cond b (Ok v) (Err BeyondType)) (lt-leb v most h)) ∙ ap (count_to most) (sym e ∙ read) ∙ count_held most m low
 
-not_is : {A : Type 0} (f : Fault) (n : ℕ) → count.Not f ≡ count.Is n → A
-not_is f n e = let z : ◌≡◌ {A = ℕ} 0 1 = cc in absurd (omega arith)
+  pub count_fits : (v : ℕ) → n ≡ Some v → v ≤ most → Ok v ≡ count_to most m
+  unfolding count_to
+  count_fits v e h = sym (ap (λ b. cond b (Ok v) (Err BeyondType)) (le-leb v most h)) ∙ ap (count_to most) (sym e ∙ read) ∙ count_held most m low
 
-small : (most : ℕ) (m : Natural) (v : ℕ) → count_to most m ≡ count.Is v → v ≤ most
-unfolding count_to
-small most (Number n) v e = by_test (leb n most) refl e
-  where
-    by_test : (b : Bool) → leb n most ≡ b → cond b (count.Is n) (count.Not BeyondType) ≡ count.Is v → v ≤ most
-    by_test true h q = let same : n ≡ v = cc in rw same at (leb→le n most (rw h tt))
-    by_test false h q = not_is _ _ q
-small most NoNumber v e = not_is _ _ e
+module _ (n m : Option ℤ) (read : n ≡ held_integer m) where
+  pub signed_misspelt : n ≡ None → Err Misspelt ≡ signed_of m
+  unfolding signed_of
+  signed_misspelt e = ap signed_of (sym e ∙ read) ∙ signed_held m
 
--- a number that is read as a byte is one
-pub byte_small : (m : Natural) (v : ℕ) (r : Count) → r ≡ byte_of m → r ≡ count.Is v → v ≤ 255
-byte_small m v r p e = small 255 m v (sym p ∙ e)
+  pub signed_is : (z : ℤ) → n ≡ Some z → signed_of (Some z) ≡ signed_of m
+  signed_is z e = ap signed_of (sym e ∙ read) ∙ signed_held m
 
-pub plain_high : (v : ℕ) → 2147483647 < v → signed.Not BeyondType ≡ signed_of (Plain v)
+limited_fits : (z : ℤ) → SFits w64 (limited 10000000000 z)
+limited_fits (pos v) = record { sfits = omega arith }
+limited_fits (negsuc v) = record { sfits = omega arith }
+
+held_fits : (n m : Option ℤ) (z : ℤ) → n ≡ held_integer m → n ≡ Some z → SFits w64 z
+unfolding held_integer
+held_fits n (Some y) z p q = let same : limited 10000000000 y ≡ z = cc in subst (λ x. SFits w64 x) same (limited_fits y)
+held_fits n None z p q = cc
+
+-- a number that was read, written as the machine holds it
+pub held_back : (n m : Option ℤ) (z : ℤ) → n ≡ held_integer m → n ≡ Some z → to_z w64 (of_z w64 z) ≡ z
+held_back n m z p q = to_z-of_z (held_fits n m z p q)
+
+pub signed_within : (z : ℤ) → SFits w32 z → Ok z ≡ signed_of (Some z)
 unfolding signed_of
-plain_high v h = rw (lt-leb v 2147483647 h)
+signed_within (pos v) h = rw (le-leb v 2147483647 (omega (arith, h.sfits)))
+signed_within (negsuc v) h = rw (le-leb v 2147483647 (omega (arith, h.sfits)))
 
-pub plain_in : (v : ℕ) → v ≤ 2147483647 → signed.Is (pos v) ≡ signed_of (Plain v)
+pub signed_beyond : (z : ℤ) → (SFits w32 z → ⊥) → Err BeyondType ≡ signed_of (Some z)
 unfolding signed_of
-plain_in v h = rw (le-leb v 2147483647 h)
-
-pub minus_high : (v : ℕ) → 2147483648 < v → signed.Not BeyondType ≡ signed_of (Minus v)
-unfolding signed_of
-minus_high v h = rw (lt-leb v 2147483648 h)
-
-pub minus_in : (v : ℕ) → v ≤ 2147483648 → signed.Is (neg_ℤ (pos v)) ≡ signed_of (Minus v)
-unfolding signed_of
-minus_in v h = rw (le-leb v 2147483648 h)
-
--- ---- a negative number of 32 bits
-
-less_one : (v : ℕ) → 1 ≤ v → neg_ℤ (pos (v - 1)) -ℤ pos 1 ≡ neg_ℤ (pos v)
-less_one zero h = absurd (omega arith)
-less_one (suc zero) h = refl
-less_one (suc (suc v)) h = let e : suc (suc v) - 1 ≡ suc v = omega arith in rw e (ap (λ (k : ℕ). negsuc (suc k)) (omega arith))
-
-pub negative_fits : (v : ℕ) → v ≤ 2147483648 → SFits w32 (neg_ℤ (pos v))
-negative_fits zero h = record { sfits = omega arith }
-negative_fits (suc v) h = record { sfits = omega arith }
-
--- negated in 32 bits, less one
-pub negated_is : (v : ℕ) → 1 ≤ v → v ≤ 2147483648 → pos 0 -ℤ to_z w32 (v - 1) ≡ neg_ℤ (pos (v - 1))
-negated_is v h k = rw (to_z_pos w32 {n = v - 1} (omega arith)) (+ℤ_idl (neg_ℤ (pos (v - 1))))
-
-pub negative_is : (v : ℕ) → 1 ≤ v → v ≤ 2147483648 → to_z w32 (of_z w32 (pos 0 -ℤ to_z w32 (v - 1))) -ℤ pos 1 ≡ neg_ℤ (pos v)
-negative_is v h k = rw (negated_is v h k, to_z-of_z (negative_fits (v - 1) (omega arith))) (less_one v h)
+signed_beyond (pos v) h = elim (dec_le v 2147483647) [ yes k ↦ absurd (h (record { sfits = omega arith })) | no k ↦ rw (lt-leb v 2147483647 (omega arith)) ]
+signed_beyond (negsuc v) h = elim (dec_le v 2147483647) [ yes k ↦ absurd (h (record { sfits = omega arith })) | no k ↦ rw (lt-leb v 2147483647 (omega arith)) ]

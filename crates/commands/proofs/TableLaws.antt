@@ -4,12 +4,9 @@ use mathlib.Core.Path.{◌≡◌, refl}
 use mathlib.Core.List.{List, [], ◌∷◌, map}
 use mathlib.Core.Bool.{Bool, true, not, ◌&&◌, ◌||◌}
 use lib.Dec.{eqb, leb}
-use Rattle.scan.specs.Ascii.{bytes}
-use Rattle.scan.specs.Pieces.{opening, pieces, same_bytes}
-use Rattle.commands.specs.Words.{place_in}
-use Rattle.commands.specs.Rows.{stretch_of, all_rows, row_names, name_of, row_of}
+use Rattle.std.proofs.Common.{Some}
+use Rattle.commands.specs.Rows.{stretch_of, all_rows, name_of, is_called, row_of}
 use Rattle.commands.specs.declared.rows.Row.{Row}
-use Rattle.commands.specs.declared.rows.RowName.TheVariants.{Known}
 use Rattle.commands.specs.declared.rows.Kind.{Kind}
 use Rattle.commands.specs.declared.rows.Kind.TheVariants.{Counts, Numbers, Bytes}
 use Rattle.commands.specs.declared.rows.Stretch.{Stretch}
@@ -36,11 +33,6 @@ all_apart (r ∷ more) = each (λ (t : Row). apart (stretch_of r) (stretch_of t)
 pub table_apart : all_apart all_rows ≡ true
 table_apart = refl
 
--- the names, one by one
-pub row_names_lem : row_names ≡ bytes "tails" ∷ bytes "heads" ∷ bytes "weights" ∷ bytes "x" ∷ bytes "y" ∷ bytes "boxes" ∷ bytes "route" ∷ bytes "text" ∷ bytes "closed" ∷ bytes "answers" ∷ []
-unfolding pieces opening bytes
-row_names_lem = refl
-
-pub rows_named : map (λ (r : Row). row_of (name_of r)) all_rows ≡ map Known all_rows
-unfolding row_of place_in same_bytes bytes
-rows_named = rw row_names_lem
+pub rows_named : map (λ (r : Row). row_of (name_of r)) all_rows ≡ map Some all_rows
+unfolding name_of is_called
+rows_named = refl

@@ -1,62 +1,55 @@
--- Laws of the words of a line, and of what the code sees from a position on.
-use mathlib.Core.Path.{◌≡◌, refl, sym, ◌∙◌}
-use mathlib.Core.List.{List, [], ◌∷◌}
-use mathlib.Core.Bool.{Bool, true, false, cond, ◌&&◌, ◌||◌, not, false≢true}
-use Prim.Native.Nat.compare
-use Prim.Native.Nat.{ℕ, suc, ◌+◌, ◌<◌, ◌≤◌}
-use native.Mathlib.Omega.{arith}
-use lib.Dec.{eqb, ltb}
-use lib.ListN.{length, take, drop, get_or, drop_of_length-le}
-use borrow.Author.Tests.{lt-ltb}
+-- Laws of the words of a line.
+use Rattle.std.proofs.Common.{◌≡◌, refl, sym, ap, ap₂, ◌∙◌, ℕ, zero, suc, ◌+◌, ◌<◌, ◌≤◌, List, [], ◌∷◌, length, take, drop, get_or, Bool, true, false, cond, not, ◌&&◌, ◌||◌, eqb, arith}
+use mathlib.Core.Bool.{false≢true}
+use borrow.Author.Tests.{ne_eqb}
+use Rattle.std.specs.List.{slice_split, onto_first, list_all}
 use Rattle.scan.specs.Pieces.{opening, pieces, first_at, first_field, fields_of}
-use Rattle.scan.proofs.PieceLaws.{at_cons, pieces_step, pieces_turn, pieces_end}
-use Rattle.commands.specs.Words.{words_of, word, after_word, holds_byte, none_empty}
+use Rattle.scan.proofs.PieceLaws.{pieces_step}
+use Rattle.commands.specs.Words.{words_of, after_word, none_empty}
 
 -- ---- the first word, and the words after it
+
+pub words_step : (s : List ℕ) → 0 < length s → words_of s ≡ first_field s ∷ words_of (after_word s)
+words_step s h = pieces_step 32 s _ refl h
+
+pub words_after : (s : List ℕ) → words_of (after_word s) ≡ drop 1 (words_of s)
+unfolding pieces first_at
+words_after [] = refl
+words_after (b ∷ t) = rw (words_step (b ∷ t) (omega arith))
 
 pub words_none : (s : List ℕ) → length s ≡ 0 → words_of s ≡ []
 unfolding pieces
 words_none [] e = refl
 words_none (b ∷ t) e = absurd (omega arith)
 
--- from a position on
-pub words_turn : (s t : List ℕ) (at e : ℕ) → t ≡ drop at s → e ≡ first_at 32 t → at < length s
-    → words_of (drop at s) ≡ take e t ∷ words_of (drop (at + e + 1) s)
-words_turn s t at e p q h = pieces_turn 32 s t at e p q h
-
-pub words_end : (s : List ℕ) (at : ℕ) → length s ≤ at → words_of (drop at s) ≡ []
-words_end s at h = pieces_end 32 s at h
-
-pub word_first : (s : List ℕ) → word 0 (words_of s) ≡ first_field s
-unfolding pieces first_at
-word_first [] = refl
-word_first (b ∷ t) = rw (pieces_step 32 (b ∷ t) _ refl (omega arith))
-
-pub words_after : (s : List ℕ) → words_of (after_word s) ≡ drop 1 (words_of s)
-unfolding pieces first_at
-words_after [] = refl
-words_after (b ∷ t) = rw (pieces_step 32 (b ∷ t) _ refl (omega arith))
-
-pub word_second : (s : List ℕ) → word 1 (words_of s) ≡ first_field (after_word s)
-unfolding pieces first_at
-word_second [] = refl
-word_second (b ∷ t) = rw (pieces_step 32 (b ∷ t) _ refl (omega arith)) (word_first (after_word (b ∷ t)))
-
-pub word_third : (s : List ℕ) → word 2 (words_of s) ≡ first_field (after_word (after_word s))
-unfolding pieces first_at
-word_third [] = refl
-word_third (b ∷ t) = rw (pieces_step 32 (b ∷ t) _ refl (omega arith)) (word_second (after_word (b ∷ t)))
-
--- ---- a byte in a text
-
-pub holds_first : (b : ℕ) (s : List ℕ) → ltb (first_at b s) (length s) ≡ holds_byte b s
-unfolding first_at holds_byte
-holds_first b [] = refl
-holds_first b (c ∷ s) = by_byte (eqb c b) (holds_first b s)
+-- a word takes a byte at least
+pub words_few : (s : List ℕ) → length (words_of s) ≤ length s
+unfolding pieces opening
+words_few [] = omega arith
+words_few (b ∷ t) = by_space (eqb b 32) (words_of t) (words_few t)
   where
-    by_byte : (z : Bool) → ltb (first_at b s) (length s) ≡ holds_byte b s → ltb (cond z 0 (suc (first_at b s))) (suc (length s)) ≡ z || holds_byte b s
-    by_byte true ih = lt-ltb 0 (suc (length s)) (omega arith)
-    by_byte false ih = rw (compare.suc-suc) ih
+    by_space : (is : Bool) (ws : List (List ℕ)) → length ws ≤ length t → length (cond is ([] ∷ ws) (opening b ws)) ≤ suc (length t)
+    by_space true ws h = omega arith
+    by_space false [] h = omega arith
+    by_space false (w ∷ ws) h = omega arith
+
+-- ---- what `split` gives are the fields
+
+opened : (b : ℕ) (ws : List (List ℕ)) → onto_first b ws ≡ opening b ws
+unfolding opening
+opened b [] = refl
+opened b (w ∷ ws) = refl
+
+pub fields_split : (s : List ℕ) → slice_split (λ b. eqb b 32) s ≡ fields_of s
+unfolding pieces
+fields_split [] = refl
+fields_split (b ∷ t) = rw (opened b (slice_split (λ c. eqb c 32) t), fields_split t) refl
+
+pub all_some : (ws : List (List ℕ)) → list_all (λ w. not (eqb (length w) 0)) ws ≡ none_empty ws
+unfolding none_empty
+all_some [] = refl
+all_some ([] ∷ ws) = refl
+all_some ((b ∷ w) ∷ ws) = rw (ne_eqb (suc (length w)) 0 (λ e. omega arith)) (all_some ws)
 
 -- ---- no empty word: `was` says that a space, or the line's start, stands before
 
@@ -72,22 +65,6 @@ by_space true false b (l ∷ ls) h = refl
 by_space false true b fs h = refl
 by_space false false b [] h = refl
 by_space false false b (l ∷ ls) h = refl
-
-pub apart_step : (was : Bool) (s : List ℕ) (i : ℕ) → i < length s → was && eqb (get_or s i 0) 32 ≡ false
-    → apart was (drop i s) ≡ apart (eqb (get_or s i 0) 32) (drop (i + 1) s)
-unfolding pieces
-apart_step was s i h k = rw (at_cons s i h) (by_space was (eqb (get_or s i 0) 32) (get_or s i 0) (fields_of (drop (i + 1) s)) k)
-
--- two spaces, or one at the line's start
-pub apart_not : (was : Bool) (s : List ℕ) (i : ℕ) → i < length s → was && eqb (get_or s i 0) 32 ≡ true → apart was (drop i s) ≡ false
-unfolding pieces none_empty
-apart_not false s i h k = absurd (false≢true k)
-apart_not true s i h k = simp (at_cons s i h, k)
-
-pub apart_end : (was : Bool) (s : List ℕ) (i : ℕ) → length s ≤ i → apart was (drop i s) ≡ not was
-unfolding pieces none_empty
-apart_end true s i h = rw (drop_of_length-le s h)
-apart_end false s i h = rw (drop_of_length-le s h)
 
 -- ---- the words of a line with no empty field are its fields
 

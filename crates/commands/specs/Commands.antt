@@ -1,5 +1,6 @@
 -- What a line of the console asks for, or its first fault.
-use Rattle.std.specs.Prelude.{ℕ, List, [], ◌∷◌, cond, ◌||◌, eqb, leb, length, drop}
+use Rattle.std.specs.Prelude.{ℕ, ℤ, List, [], ◌∷◌, cond, ◌||◌, eqb, leb, length, drop, Some, None, Result, Ok, Err}
+use Rattle.std.specs.Option.{ok_or}
 use Prim.Native.Char.{code}
 use Rattle.scan.specs.Pieces.{fields_of}
 use Rattle.scan.specs.Numbers.{natural_of, integer_of}
@@ -7,129 +8,109 @@ use Rattle.commands.specs.Words.{words_of, word, holds_byte, none_empty}
 use Rattle.commands.specs.Verbs.{verb_of, takes_words}
 use Rattle.commands.specs.Rows.{row_of, places_of, kind_of}
 use Rattle.commands.specs.Numbers.{count_of, byte_of, signed_of}
+use Rattle.commands.specs.declared.Fault.{Fault}
 use Rattle.commands.specs.declared.Fault.TheVariants.{EmptyLine, ControlByte, EmptyWord, NoCommand, WordCount, NoRow, LongRow}
 use Rattle.commands.specs.declared.Call.TheVariants as call
-use Rattle.commands.specs.declared.Shown.TheVariants.{All, First}
+use Rattle.commands.specs.declared.Request.{Request}
 use Rattle.commands.specs.declared.Request.TheVariants as request
 use Rattle.commands.specs.declared.Command.{Command}
-use Rattle.commands.specs.declared.Command.TheVariants.{Faulty, Lend, Fresh, Read, Save, Other}
-use Rattle.commands.specs.declared.arguments.Pair.{Pair}
-use Rattle.commands.specs.declared.arguments.Pair.TheVariants as pair
-use Rattle.commands.specs.declared.faults.Judged.{Judged}
-use Rattle.commands.specs.declared.faults.Judged.TheVariants.{Good, Bad}
-use Rattle.commands.specs.declared.numbers.Count.{Count}
-use Rattle.commands.specs.declared.numbers.Count.TheVariants as count
-use Rattle.commands.specs.declared.numbers.Signed.{Signed}
-use Rattle.commands.specs.declared.numbers.Signed.TheVariants as signed
+use Rattle.commands.specs.declared.Command.TheVariants.{Lend, Fresh, Read, Save, Other}
 use Rattle.commands.specs.declared.verbs.Verb.{Verb}
 use Rattle.commands.specs.declared.verbs.Verb.TheVariants as verb
 use Rattle.commands.specs.declared.rows.Row.{Row}
 use Rattle.commands.specs.declared.rows.Kind.{Kind}
 use Rattle.commands.specs.declared.rows.Kind.TheVariants.{Counts, Numbers, Bytes}
-use Rattle.commands.specs.declared.rows.RowName.{RowName}
-use Rattle.commands.specs.declared.rows.RowName.TheVariants.{Known, Unknown}
+
+-- what follows an answer; the first fault decides
+abbrev pub on_ok : {A B : Type 0} → Result A Fault → (A → Result B Fault) → Result B Fault
+on_ok (Ok a) go = go a
+on_ok (Err fault) go = Err fault
+
+-- what stands where only faults are looked for
+abbrev pub Judged : Type 0
+Judged = Result Unit Fault
 
 -- ---- faults of a line's bytes
 
-unfoldable pub line_judged : List ℕ → Judged
+abbrev pub line_judged : List ℕ → Judged
 line_judged line =
-    cond (eqb (length line) 0) (Bad EmptyLine)
-    (cond (holds_byte (code "\r") line || holds_byte (code "\t") line) (Bad ControlByte)
-    (cond (none_empty (fields_of line)) Good (Bad EmptyWord)))
+    cond (eqb (length line) 0) (Err EmptyLine)
+    (cond (holds_byte (code "\r") line || holds_byte (code "\t") line) (Err ControlByte)
+    (cond (none_empty (fields_of line)) (Ok tt) (Err EmptyWord)))
 
 -- ---- numbers
 
 -- a word as a number without sign
-abbrev pub number : List ℕ → Count
+abbrev pub number : List ℕ → Result ℕ Fault
 number word = count_of (natural_of word)
 
--- two words as numbers; the first that is none decides
-unfoldable pub pair_of : Count → Count → Pair
-pair_of (count.Is a) (count.Is b) = pair.Are a b
-pair_of (count.Is a) (count.Not fault) = pair.Not fault
-pair_of (count.Not fault) b = pair.Not fault
-
-abbrev pub pair_in : List (List ℕ) → Pair
-pair_in words = pair_of (number (word 0 words)) (number (word 1 words))
-
-unfoldable pub count_judged : Count → Judged
-count_judged (count.Is v) = Good
-count_judged (count.Not fault) = Bad fault
-
-unfoldable pub signed_judged : Signed → Judged
-signed_judged (signed.Is z) = Good
-signed_judged (signed.Not fault) = Bad fault
-
 -- a word as a byte
-abbrev pub byte : List ℕ → Count
+abbrev pub byte : List ℕ → Result ℕ Fault
 byte word = byte_of (natural_of word)
 
--- a word where a value of a row is to stand
-unfoldable pub value_judged : Kind → List ℕ → Judged
-value_judged Counts word = count_judged (number word)
-value_judged Numbers word = signed_judged (signed_of (integer_of word))
-value_judged Bytes word = count_judged (byte word)
+-- a word as a number that may be negative
+abbrev pub signed : List ℕ → Result ℤ Fault
+signed word = signed_of (integer_of word)
 
-unfoldable pub on_good : Judged → Judged → Judged
-on_good Good more = more
-on_good (Bad fault) more = Bad fault
+-- a word where a value of a row is to stand
+abbrev pub value_judged : Kind → List ℕ → Judged
+value_judged Counts word = on_ok (number word) (λ _. Ok tt)
+value_judged Numbers word = on_ok (signed word) (λ _. Ok tt)
+value_judged Bytes word = on_ok (byte word) (λ _. Ok tt)
 
 -- all the values of a row; the first that is wrong decides
 unfoldable pub values_judged : Kind → List (List ℕ) → Judged
-values_judged kind [] = Good
-values_judged kind (w ∷ ws) = on_good (value_judged kind w) (values_judged kind ws)
+values_judged kind [] = Ok tt
+values_judged kind (w ∷ ws) = on_ok (value_judged kind w) (λ _. values_judged kind ws)
 
 -- ---- a command with what stands after its first word
 
-unfoldable pub with_number : Count → (ℕ → Command) → Command
-with_number (count.Is v) go = go v
-with_number (count.Not fault) go = Faulty fault
+abbrev pub requested : Request → Result Command Fault
+requested r = Ok (Other r)
 
-unfoldable pub with_pair : Pair → (ℕ → ℕ → Command) → Command
-with_pair (pair.Are a b) go = go a b
-with_pair (pair.Not fault) go = Faulty fault
-
-unfoldable pub with_row : RowName → (Row → Command) → Command
-with_row (Known row) go = go row
-with_row Unknown go = Faulty NoRow
-
-unfoldable pub once_good : Judged → Command → Command
-once_good Good command = command
-once_good (Bad fault) command = Faulty fault
+-- the row that the first word names
+abbrev pub row_in : List (List ℕ) → Result Row Fault
+row_in words = ok_or (row_of (word 0 words)) NoRow
 
 -- `lend` with a row's values: their count is judged before any of them
-unfoldable pub lend_asked : List (List ℕ) → Row → Command
-lend_asked values row = cond (leb (length values) (places_of row)) (once_good (values_judged (kind_of row) values) (Lend row)) (Faulty LongRow)
+abbrev pub lend_asked : List (List ℕ) → Row → Result Command Fault
+lend_asked values row = cond (leb (length values) (places_of row)) (on_ok (values_judged (kind_of row) values) (λ _. Ok (Lend row))) (Err LongRow)
 
 -- `show` with a count or without
-unfoldable pub show_asked : List (List ℕ) → Row → Command
-show_asked [] row = Other (request.Show row All)
-show_asked (k ∷ more) row = with_number (number k) (λ v. Other (request.Show row (First v)))
+abbrev pub show_asked : List (List ℕ) → Row → Result Command Fault
+show_asked [] row = requested (request.Show row None)
+show_asked (k ∷ more) row = on_ok (number k) (λ v. requested (request.Show row (Some v)))
 
 -- Numbers are judged from the left, each by its spelling and its size before the next; so the byte of `update` comes last, and the arc
 -- of `why`.
-unfoldable pub asked : Verb → List (List ℕ) → Command
-asked verb.N words = with_number (number (word 0 words)) (λ v. Other (request.SetN v))
-asked verb.M words = with_number (number (word 0 words)) (λ v. Other (request.SetM v))
-asked verb.Lend words = with_row (row_of (word 0 words)) (lend_asked (drop 1 words))
-asked verb.Show words = with_row (row_of (word 0 words)) (show_asked (drop 1 words))
-asked (verb.Read reading) words = Read reading
-asked verb.Build words = Other (request.Call call.Build)
-asked verb.Check words = Other (request.Call call.Check)
-asked verb.Update words = with_pair (pair_in words) (λ arc weight. with_number (byte (word 2 words)) (λ b. Other (request.Call (call.Update arc weight b))))
-asked verb.Search words = with_pair (pair_in words) (λ s t. Other (request.Call (call.Search s t)))
-asked verb.Boxed words = with_pair (pair_in words) (λ s t. Other (request.Call (call.Boxed s t)))
-asked verb.Why words = with_pair (pair_in words) (λ s t. with_number (number (word 2 words)) (λ e. Other (request.Call (call.Why s t e))))
-asked (verb.Write format) words = Other (request.Write format)
-asked (verb.Save format) words = Save format
-asked verb.Fresh words = Fresh
-asked verb.Help words = Other request.Help
-asked verb.NoVerb words = Faulty NoCommand
+abbrev pub asked : Verb → List (List ℕ) → Result Command Fault
+asked verb.N words = on_ok (number (word 0 words)) (λ v. requested (request.SetN v))
+asked verb.M words = on_ok (number (word 0 words)) (λ v. requested (request.SetM v))
+asked verb.Lend words = on_ok (row_in words) (lend_asked (drop 1 words))
+asked verb.Show words = on_ok (row_in words) (show_asked (drop 1 words))
+asked (verb.Read reading) words = Ok (Read reading)
+asked verb.Build words = requested (request.Call call.Build)
+asked verb.Check words = requested (request.Call call.Check)
+asked verb.Update words =
+    on_ok (number (word 0 words)) (λ a. on_ok (number (word 1 words)) (λ w. on_ok (byte (word 2 words)) (λ b.
+    requested (request.Call (call.Update (record { arc = a; weight = w; closure = b })))
+    )))
+asked verb.Search words = on_ok (number (word 0 words)) (λ s. on_ok (number (word 1 words)) (λ t. requested (request.Call (call.Search s t))))
+asked verb.Boxed words = on_ok (number (word 0 words)) (λ s. on_ok (number (word 1 words)) (λ t. requested (request.Call (call.Boxed s t))))
+asked verb.Why words =
+    on_ok (number (word 0 words)) (λ s. on_ok (number (word 1 words)) (λ t. on_ok (number (word 2 words)) (λ e.
+    requested (request.Call (call.Why s t e))
+    )))
+asked (verb.Write format) words = requested (request.Write format)
+asked (verb.Save format) words = Ok (Save format)
+asked verb.Fresh words = Ok Fresh
+asked verb.Help words = requested request.Help
 
 -- ---- a line
 
-unfoldable pub command_of : List ℕ → Command
+abbrev pub command_of : List ℕ → Result Command Fault
 command_of line =
     let words = words_of line in
-    let verb = verb_of (word 0 words) (word 1 words) in
-    once_good (line_judged line) (cond (takes_words verb (length words)) (asked verb (drop 1 words)) (Faulty WordCount))
+    on_ok (line_judged line) (λ _. on_ok (ok_or (verb_of (word 0 words) (word 1 words)) NoCommand) (λ verb.
+    cond (takes_words verb (length words)) (asked verb (drop 1 words)) (Err WordCount)
+    ))

@@ -1,11 +1,8 @@
 -- The rows of the console: their names, what each holds, and where it stands.
-use Rattle.std.specs.Prelude.{ℕ, ◌+◌, ◌*◌, ◌≤◌, ◌<◌, List, [], ◌∷◌, map, ℤ, pos, get_or}
-use Rattle.scan.specs.Ascii.{bytes}
-use Rattle.commands.specs.Words.{words_of, word, place_in}
+use Rattle.std.specs.Prelude.{ℕ, ◌+◌, ◌*◌, ◌≤◌, ◌<◌, List, [], ◌∷◌, Bool, ℤ, pos, Option, find, codes}
+use Rattle.std.specs.Str.{bytes_eq}
 use Rattle.commands.specs.declared.rows.Row.{Row}
 use Rattle.commands.specs.declared.rows.Row.TheVariants as row
-use Rattle.commands.specs.declared.rows.RowName.{RowName}
-use Rattle.commands.specs.declared.rows.RowName.TheVariants.{Known, Unknown}
 use Rattle.commands.specs.declared.rows.Kind.{Kind}
 use Rattle.commands.specs.declared.rows.Kind.TheVariants.{Counts, Numbers, Bytes}
 use Rattle.commands.specs.declared.rows.Stretch.{Stretch}
@@ -47,9 +44,6 @@ stretch_of row.Answers = stretch_from Counts 9 13312 512
 abbrev pub all_rows : List Row
 all_rows = row.Tails ∷ row.Heads ∷ row.Weights ∷ row.X ∷ row.Y ∷ row.Boxes ∷ row.Route ∷ row.Text ∷ row.Closed ∷ row.Answers ∷ []
 
-abbrev pub row_names : List (List ℕ)
-row_names = words_of (bytes "tails heads weights x y boxes route text closed answers")
-
 -- ----
 
 abbrev pub kind_of : Row → Kind
@@ -58,13 +52,25 @@ kind_of r = (stretch_of r).kind
 abbrev pub places_of : Row → ℕ
 places_of r = (stretch_of r).places
 
--- the name in the place of the row's number
-abbrev pub name_of : Row → List ℕ
-name_of r = word (stretch_of r).number row_names
+-- the word that names a row
+unfoldable pub name_of : Row → List ℕ
+name_of row.Tails = codes "tails"
+name_of row.Heads = codes "heads"
+name_of row.Weights = codes "weights"
+name_of row.X = codes "x"
+name_of row.Y = codes "y"
+name_of row.Boxes = codes "boxes"
+name_of row.Route = codes "route"
+name_of row.Text = codes "text"
+name_of row.Closed = codes "closed"
+name_of row.Answers = codes "answers"
+
+unfoldable pub is_called : List ℕ → Row → Bool
+is_called word r = bytes_eq (name_of r) word
 
 -- the row that a word names
-unfoldable pub row_of : List ℕ → RowName
-row_of w = get_or (map Known all_rows) (place_in w row_names) Unknown
+abbrev pub row_of : List ℕ → Option Row
+row_of word = find (is_called word) all_rows
 
 -- how many bytes of a page a value takes at most, with the space before it
 abbrev pub width_of : Kind → ℕ

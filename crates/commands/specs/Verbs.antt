@@ -1,34 +1,13 @@
 -- The commands by their names.
-use Rattle.std.specs.Prelude.{ℕ, List, [], ◌∷◌, Bool, true, ◌||◌, eqb, leb, get_or}
-use Rattle.scan.specs.Ascii.{bytes}
-use Rattle.commands.specs.Words.{words_of, place_in}
-use Rattle.commands.specs.declared.verbs.Format.{Format}
-use Rattle.commands.specs.declared.verbs.Format.TheVariants.{Gr, Co}
-use Rattle.commands.specs.declared.verbs.FormatName.{FormatName}
-use Rattle.commands.specs.declared.verbs.FormatName.TheVariants.{Known, Unknown}
+use Rattle.std.specs.Prelude.{ℕ, List, [], ◌∷◌, Bool, true, ◌&&◌, ◌||◌, eqb, leb, Option, find, codes}
+use Rattle.std.specs.Str.{bytes_eq}
+use Rattle.commands.specs.declared.verbs.Format.TheVariants as format
 use Rattle.commands.specs.declared.verbs.Reading.TheVariants as reading
 use Rattle.commands.specs.declared.verbs.Verb.{Verb}
 use Rattle.commands.specs.declared.verbs.Verb.TheVariants as verb
 
--- the kinds of files that are written, in the order of their names
-abbrev pub all_formats : List FormatName
-all_formats = Known Gr ∷ Known Co ∷ []
-
--- the kind of file that a word names
-unfoldable pub format_of : List ℕ → FormatName
-format_of word = get_or all_formats (place_in word (words_of (bytes "gr co"))) Unknown
-
--- a command of which the kind of file is a part of the name
-abbrev pub with : (Format → Verb) → FormatName → Verb
-with command (Known format) = command format
-with command Unknown = verb.NoVerb
-
-abbrev pub verb_names : List (List ℕ)
-verb_names = words_of (bytes "n m lend show gr co p2p build check update search boxed why write save fresh help")
-
--- the commands in the order of their names, where the second word names such a kind of file
-abbrev pub all_verbs : FormatName → List Verb
-all_verbs format =
+abbrev pub all_verbs : List Verb
+all_verbs =
     verb.N
     ∷ verb.M
     ∷ verb.Lend
@@ -42,17 +21,50 @@ all_verbs format =
     ∷ verb.Search
     ∷ verb.Boxed
     ∷ verb.Why
-    ∷ with verb.Write format
-    ∷ with verb.Save format
+    ∷ verb.Write format.Gr
+    ∷ verb.Write format.Co
+    ∷ verb.Save format.Gr
+    ∷ verb.Save format.Co
     ∷ verb.Fresh
     ∷ verb.Help
     ∷ []
 
--- the command that a line's first two words name
-unfoldable pub verb_of : List ℕ → List ℕ → Verb
-verb_of first second = get_or (all_verbs (format_of second)) (place_in first verb_names) verb.NoVerb
+-- the first word of a line with a command
+unfoldable pub name_of : Verb → List ℕ
+name_of verb.N = codes "n"
+name_of verb.M = codes "m"
+name_of verb.Lend = codes "lend"
+name_of verb.Show = codes "show"
+name_of (verb.Read reading.Gr) = codes "gr"
+name_of (verb.Read reading.Co) = codes "co"
+name_of (verb.Read reading.P2p) = codes "p2p"
+name_of verb.Build = codes "build"
+name_of verb.Check = codes "check"
+name_of verb.Update = codes "update"
+name_of verb.Search = codes "search"
+name_of verb.Boxed = codes "boxed"
+name_of verb.Why = codes "why"
+name_of (verb.Write format) = codes "write"
+name_of (verb.Save format) = codes "save"
+name_of verb.Fresh = codes "fresh"
+name_of verb.Help = codes "help"
 
--- whether a line may have so many words, the command included; what is no command is told as such, whatever follows
+-- whether the second word names the kind of file, where that is a part of a command's name
+abbrev pub is_of : List ℕ → Verb → Bool
+is_of second (verb.Write format.Gr) = bytes_eq second (codes "gr")
+is_of second (verb.Write format.Co) = bytes_eq second (codes "co")
+is_of second (verb.Save format.Gr) = bytes_eq second (codes "gr")
+is_of second (verb.Save format.Co) = bytes_eq second (codes "co")
+is_of second _ = true
+
+unfoldable pub is_called : List ℕ → List ℕ → Verb → Bool
+is_called first second verb = bytes_eq (name_of verb) first && is_of second verb
+
+-- the command that a line's first two words name
+abbrev pub verb_of : List ℕ → List ℕ → Option Verb
+verb_of first second = find (is_called first second) all_verbs
+
+-- whether a line may have so many words, the command included
 abbrev pub takes_words : Verb → ℕ → Bool
 takes_words verb.N words = eqb words 2
 takes_words verb.M words = eqb words 2
@@ -69,4 +81,3 @@ takes_words (verb.Write format) words = eqb words 2
 takes_words (verb.Save format) words = eqb words 3
 takes_words verb.Fresh words = eqb words 1
 takes_words verb.Help words = eqb words 1
-takes_words verb.NoVerb words = true

@@ -1,141 +1,83 @@
 // What stands after a command's first word.
 ghost use Rattle.std.specs.Prelude.{◌≡◌};
-ghost use Rattle.commands.specs.Words.{words_of};
-ghost use Rattle.commands.specs.Commands.{pair_in, asked};
-ghost use Rattle.commands.specs.declared.verbs.Verb.TheVariants.{Lend, Show, Update, Why};
+ghost use Rattle.commands.specs.Words.{words_of, word};
+ghost use Rattle.commands.specs.Commands.{number, asked};
+ghost use Rattle.commands.specs.declared.verbs.Verb.TheVariants.{Lend, Show};
 
-use crate::faults::{Judged, judge_values};
-use crate::numbers::{Count, read_byte, read_count};
-use crate::rows::{RowName, row_of};
+use crate::faults::judge_values;
+use crate::numbers::{read_byte, read_count};
+use crate::rows::row_of;
 use crate::verbs::Verb;
-use crate::words::{after_word, count_words, first_word};
-use crate::{Call, Command, Fault, Request, Shown};
+use crate::words::{after_word, count_words, word_at};
+use crate::{Call, Command, Fault, Request};
+use rules::Change;
 
-// Two numbers, or the fault of the first that has one.
-#[derive(Drop)]
-pub enum Pair {
-    Are(u32, u32),
-    Not(Fault),
-}
-
-// Two words that are numbers without sign.
-fn read_pair(words: &[u8]) -> Pair
-    ensures { result ≡ pair_in (words_of words.now) }
+// The word in a place as a number without sign.
+fn number_at(words: &[u8], place: usize) -> Result<u32, Fault>
+    ensures { result ≡ number (word place (words_of words.now)) }
 {
-    let a = read_count(first_word(words));
-    let b = read_count(first_word(after_word(words)));
-    match a {
-        Count::Not(fault) => Pair::Not(fault),
-        Count::Is(first) => match b {
-            Count::Not(fault) => Pair::Not(fault),
-            Count::Is(second) => Pair::Are(first, second),
-        },
-    }
+    read_count(word_at(words, place))
 }
 
 // `lend`: the row's name, then its values.
-fn lend_of(words: &[u8]) -> Command
+fn lend_of(words: &[u8]) -> Result<Command, Fault>
     ensures { result ≡ asked Lend (words_of words.now) }
 {
-    let name = row_of(first_word(words));
-    let RowName::Known(row) = name else {
-        return Command::Faulty(Fault::NoRow);
-    };
+    let row = row_of(word_at(words, 0)).ok_or(Fault::NoRow)?;
     let values = after_word(words);
     let stretch = row.stretch();
     if stretch.places < count_words(values) {
-        return Command::Faulty(Fault::LongRow);
+        return Err(Fault::LongRow);
     }
-    let kind = stretch.kind;
-    let judged = judge_values(values, kind);
-    let Judged::Bad(fault) = judged else {
-        return Command::Lend(row);
-    };
-    Command::Faulty(fault)
+    judge_values(values, stretch.kind)?;
+    Ok(Command::Lend(row))
 }
 
 // `show`: the row's name, and perhaps a count.
-fn show_of(words: &[u8]) -> Command
+fn show_of(words: &[u8]) -> Result<Command, Fault>
     ensures { result ≡ asked Show (words_of words.now) }
 {
-    let name = row_of(first_word(words));
-    let RowName::Known(row) = name else {
-        return Command::Faulty(Fault::NoRow);
-    };
-    let more = after_word(words);
-    if more.len() == 0 {
-        return Command::Other(Request::Show(row, Shown::All));
+    let row = row_of(word_at(words, 0)).ok_or(Fault::NoRow)?;
+    if count_words(words) < 2 {
+        return Ok(Request::Show(row, None).into());
     }
-    match read_count(first_word(more)) {
-        Count::Is(k) => Command::Other(Request::Show(row, Shown::First(k))),
-        Count::Not(fault) => Command::Faulty(fault),
-    }
-}
-
-// `update`: an arc and its new weight, then its new byte.
-fn update_of(words: &[u8]) -> Command
-    ensures { result ≡ asked Update (words_of words.now) }
-{
-    let pair = read_pair(words);
-    let after_arc = after_word(words);
-    let byte = read_byte(first_word(after_word(after_arc)));
-    match pair {
-        Pair::Not(fault) => Command::Faulty(fault),
-        Pair::Are(arc, weight) => match byte {
-            Count::Not(fault) => Command::Faulty(fault),
-            Count::Is(b) => Command::Other(Request::Call(Call::Update(arc, weight, b as u8))),
-        },
-    }
-}
-
-// `why`: a source and a target, then an arc.
-fn why_of(words: &[u8]) -> Command
-    ensures { result ≡ asked Why (words_of words.now) }
-{
-    let pair = read_pair(words);
-    let after_source = after_word(words);
-    let last = read_count(first_word(after_word(after_source)));
-    match pair {
-        Pair::Not(fault) => Command::Faulty(fault),
-        Pair::Are(s, t) => match last {
-            Count::Not(fault) => Command::Faulty(fault),
-            Count::Is(arc) => Command::Other(Request::Call(Call::Why(s, t, arc))),
-        },
-    }
+    Ok(Request::Show(row, Some(number_at(words, 1)?)).into())
 }
 
 // The command of a line whose first word is `verb` and whose other words are `words`.
-pub fn ask(verb: Verb, words: &[u8]) -> Command
+pub fn ask(verb: Verb, words: &[u8]) -> Result<Command, Fault>
     ensures { result ≡ asked verb (words_of words.now) }
 {
     match verb {
-        Verb::N => match read_count(first_word(words)) {
-            Count::Is(n) => Command::Other(Request::SetN(n)),
-            Count::Not(fault) => Command::Faulty(fault),
-        },
-        Verb::M => match read_count(first_word(words)) {
-            Count::Is(m) => Command::Other(Request::SetM(m)),
-            Count::Not(fault) => Command::Faulty(fault),
-        },
+        Verb::N => Ok(Request::SetN(number_at(words, 0)?).into()),
+        Verb::M => Ok(Request::SetM(number_at(words, 0)?).into()),
         Verb::Lend => lend_of(words),
         Verb::Show => show_of(words),
-        Verb::Read(reading) => Command::Read(reading),
-        Verb::Build => Command::Other(Request::Call(Call::Build)),
-        Verb::Check => Command::Other(Request::Call(Call::Check)),
-        Verb::Update => update_of(words),
-        Verb::Search => match read_pair(words) {
-            Pair::Are(s, t) => Command::Other(Request::Call(Call::Search(s, t))),
-            Pair::Not(fault) => Command::Faulty(fault),
-        },
-        Verb::Boxed => match read_pair(words) {
-            Pair::Are(s, t) => Command::Other(Request::Call(Call::Boxed(s, t))),
-            Pair::Not(fault) => Command::Faulty(fault),
-        },
-        Verb::Why => why_of(words),
-        Verb::Write(format) => Command::Other(Request::Write(format)),
-        Verb::Save(format) => Command::Save(format),
-        Verb::Fresh => Command::Fresh,
-        Verb::Help => Command::Other(Request::Help),
-        Verb::NoVerb => Command::Faulty(Fault::NoCommand),
+        Verb::Read(reading) => Ok(Command::Read(reading)),
+        Verb::Build => Ok(Call::Build.into()),
+        Verb::Check => Ok(Call::Check.into()),
+        Verb::Update => {
+            let arc = number_at(words, 0)?;
+            let weight = number_at(words, 1)?;
+            let closure = read_byte(word_at(words, 2))?;
+            let change = Change {
+                arc,
+                weight,
+                closure,
+            };
+            Ok(Call::Update(change).into())
+        }
+        Verb::Search => Ok(Call::Search(number_at(words, 0)?, number_at(words, 1)?).into()),
+        Verb::Boxed => Ok(Call::Boxed(number_at(words, 0)?, number_at(words, 1)?).into()),
+        Verb::Why => {
+            let s = number_at(words, 0)?;
+            let t = number_at(words, 1)?;
+            let arc = number_at(words, 2)?;
+            Ok(Call::Why(s, t, arc).into())
+        }
+        Verb::Write(format) => Ok(Request::Write(format).into()),
+        Verb::Save(format) => Ok(Command::Save(format)),
+        Verb::Fresh => Ok(Command::Fresh),
+        Verb::Help => Ok(Request::Help.into()),
     }
 }

@@ -3,7 +3,6 @@
 
 pub mod arguments;
 pub mod faults;
-pub mod names;
 pub mod numbers;
 pub mod rows;
 pub mod verbs;
@@ -11,15 +10,20 @@ pub mod words;
 
 ghost use Rattle.std.specs.Prelude.{◌≡◌};
 ghost use Rattle.commands.specs.Commands.{command_of};
+ghost use Rattle.commands.specs.declared.Fault.TheVariants.{BeyondType};
+ghost use Rattle.commands.specs.declared.Request.TheVariants as request;
+ghost use Rattle.commands.specs.declared.Command.TheVariants.{Other};
 
 use crate::arguments::ask;
-use crate::faults::{Judged, judge_line};
+use crate::faults::judge_line;
 use crate::rows::Row;
 use crate::verbs::{Format, Reading, takes, verb_of};
-use crate::words::{after_word, count_words, first_word};
+use crate::words::{after_word, count_words, word_at};
+use rules::Change;
+use std::num::TryFromIntError;
 
 // Why a line is no command. Of several faults the first in this list is told.
-#[derive(Drop)]
+#[derive(Clone, Copy)]
 pub enum Fault {
     LongLine,
     EmptyLine,
@@ -34,39 +38,40 @@ pub enum Fault {
     FewerLent,
 }
 
+// A number that its type cannot hold.
+impl From<TryFromIntError> for Fault {
+    ghost from_gives = { λ _ fault. fault ≡ BeyondType };
+
+    fn from(_error: TryFromIntError) -> Fault {
+        Fault::BeyondType
+    }
+}
+
 // The calls on a network that has been lent.
-#[derive(Drop)]
+#[derive(Clone, Copy)]
 pub enum Call {
     Build,
     Check,
-    Update(u32, u32, u8),
+    Update(Change),
     Search(u32, u32),
     Boxed(u32, u32),
     Why(u32, u32, u32),
 }
 
-// Which of a row's lent places are shown.
-#[derive(Drop)]
-pub enum Shown {
-    All,
-    First(u32),
-}
-
-// What a line asks for that leaves the lent places as they are, and names no file.
-#[derive(Drop)]
+// What a line asks for that leaves the lent places as they are, and names no file. `show` may say how many places are shown.
+#[derive(Clone, Copy)]
 pub enum Request {
     SetN(u32),
     SetM(u32),
-    Show(Row, Shown),
+    Show(Row, Option<u32>),
     Write(Format),
     Call(Call),
     Help,
 }
 
 // What a line asks for. The values of `lend`, and the name of a file, are read from the line again.
-#[derive(Drop)]
+#[derive(Clone, Copy)]
 pub enum Command {
-    Faulty(Fault),
     Lend(Row),
     Fresh,
     Read(Reading),
@@ -74,17 +79,30 @@ pub enum Command {
     Other(Request),
 }
 
+impl From<Request> for Command {
+    ghost from_gives = { λ request command. command ≡ Other request };
+
+    fn from(request: Request) -> Command {
+        Command::Other(request)
+    }
+}
+
+impl From<Call> for Command {
+    ghost from_gives = { λ call command. command ≡ Other (request.Call call) };
+
+    fn from(call: Call) -> Command {
+        Command::Other(Request::Call(call))
+    }
+}
+
 // What a line asks for: it is judged whole, and nothing is stored yet.
-pub fn command_of(line: &[u8]) -> Command
+pub fn command_of(line: &[u8]) -> Result<Command, Fault>
     ensures { result ≡ command_of line.now }
 {
-    let judged = judge_line(line);
-    let Judged::Bad(fault) = judged else {
-        let verb = verb_of(first_word(line), first_word(after_word(line)));
-        if takes(verb, count_words(line)) {
-            return ask(verb, after_word(line));
-        }
-        return Command::Faulty(Fault::WordCount);
-    };
-    Command::Faulty(fault)
+    judge_line(line)?;
+    let verb = verb_of(word_at(line, 0), word_at(line, 1)).ok_or(Fault::NoCommand)?;
+    if !takes(verb, count_words(line)) {
+        return Err(Fault::WordCount);
+    }
+    ask(verb, after_word(line))
 }

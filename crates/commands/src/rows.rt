@@ -1,8 +1,6 @@
 // The rows of the console: their names, and the table of them all.
 ghost use Rattle.std.specs.Prelude.{◌≡◌};
-ghost use Rattle.commands.specs.Rows.{stretch_from, stretch_of, Lies, row_of};
-
-use crate::names::place_of;
+ghost use Rattle.commands.specs.Rows.{stretch_from, stretch_of, Lies, name_of, is_called, row_of};
 
 #[derive(Clone, Copy)]
 pub enum Row {
@@ -16,12 +14,6 @@ pub enum Row {
     Text,
     Closed,
     Answers,
-}
-
-#[derive(Drop)]
-pub enum RowName {
-    Known(Row),
-    Unknown,
 }
 
 // What a row holds. The rows of a kind stand in one store.
@@ -42,7 +34,7 @@ pub const BYTES: usize = 49152;
 pub const ROWS: usize = 16;
 
 // Where a row stands: its number among the rows, and the places of its kind's store that are its own.
-#[derive(Drop)]
+#[derive(Clone, Copy)]
 pub struct Stretch {
     pub kind: Kind,
     pub number: usize,
@@ -60,6 +52,20 @@ fn stretch_from(kind: Kind, number: usize, start: usize, places: usize) -> Stret
         places,
     }
 }
+
+// All rows, in the order of their numbers.
+const ALL_ROWS: [Row; 10] = [
+    Row::Tails,
+    Row::Heads,
+    Row::Weights,
+    Row::X,
+    Row::Y,
+    Row::Boxes,
+    Row::Route,
+    Row::Text,
+    Row::Closed,
+    Row::Answers,
+];
 
 impl Row {
     // The table of the rows.
@@ -80,26 +86,38 @@ impl Row {
             Row::Answers => stretch_from(Kind::Counts, 9, 13312, 512),
         }
     }
+
+    // The word that names it.
+    #[tactic(auto, unfolding(crate::specs::Rows::name_of))]
+    pub fn name(self) -> &'static [u8]
+        ensures { result.now ≡ name_of self }
+    {
+        match self {
+            Row::Tails => b"tails",
+            Row::Heads => b"heads",
+            Row::Weights => b"weights",
+            Row::X => b"x",
+            Row::Y => b"y",
+            Row::Boxes => b"boxes",
+            Row::Route => b"route",
+            Row::Text => b"text",
+            Row::Closed => b"closed",
+            Row::Answers => b"answers",
+        }
+    }
+
+    // Whether a word names it.
+    #[tactic(auto, unfolding(crate::specs::Rows::is_called))]
+    fn is_called(self, word: &[u8]) -> bool
+        ensures { result ≡ is_called word.now self }
+    {
+        self.name() == word
+    }
 }
 
-// The names of the rows, in the order of their numbers.
-pub const ROW_NAMES: [u8; 55] = *b"tails heads weights x y boxes route text closed answers";
-
 // The row that a word names.
-pub fn row_of(word: &[u8]) -> RowName
+pub fn row_of(word: &[u8]) -> Option<Row>
     ensures { result ≡ row_of word.now }
 {
-    match place_of(word, &ROW_NAMES) {
-        0 => RowName::Known(Row::Tails),
-        1 => RowName::Known(Row::Heads),
-        2 => RowName::Known(Row::Weights),
-        3 => RowName::Known(Row::X),
-        4 => RowName::Known(Row::Y),
-        5 => RowName::Known(Row::Boxes),
-        6 => RowName::Known(Row::Route),
-        7 => RowName::Known(Row::Text),
-        8 => RowName::Known(Row::Closed),
-        9 => RowName::Known(Row::Answers),
-        _ => RowName::Unknown,
-    }
+    ALL_ROWS.iter().copied().find(|row| row.is_called(word))
 }

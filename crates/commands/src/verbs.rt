@@ -1,8 +1,6 @@
 // The names of commands.
 ghost use Rattle.std.specs.Prelude.{◌≡◌};
-ghost use Rattle.commands.specs.Verbs.{format_of, verb_of, takes_words};
-
-use crate::names::place_of;
+ghost use Rattle.commands.specs.Verbs.{name_of, is_called, verb_of, takes_words};
 
 // What is read from a file: a graph, the places of its nodes, a day's list.
 #[derive(Clone, Copy)]
@@ -17,23 +15,6 @@ pub enum Reading {
 pub enum Format {
     Gr,
     Co,
-}
-
-#[derive(Drop)]
-pub enum FormatName {
-    Known(Format),
-    Unknown,
-}
-
-// The kind of file that a word names.
-fn format_of(word: &[u8]) -> FormatName
-    ensures { result ≡ format_of word.now }
-{
-    match place_of(word, b"gr co") {
-        0 => FormatName::Known(Format::Gr),
-        1 => FormatName::Known(Format::Co),
-        _ => FormatName::Unknown,
-    }
 }
 
 // The commands by their names.
@@ -54,43 +35,82 @@ pub enum Verb {
     Save(Format),
     Fresh,
     Help,
-    NoVerb,
 }
 
-// The command that a line's first two words name. Of `write` and `save` the kind of file is a part of the name.
-pub fn verb_of(first: &[u8], second: &[u8]) -> Verb
+// All commands.
+const VERBS: [Verb; 19] = [
+    Verb::N,
+    Verb::M,
+    Verb::Lend,
+    Verb::Show,
+    Verb::Read(Reading::Gr),
+    Verb::Read(Reading::Co),
+    Verb::Read(Reading::P2p),
+    Verb::Build,
+    Verb::Check,
+    Verb::Update,
+    Verb::Search,
+    Verb::Boxed,
+    Verb::Why,
+    Verb::Write(Format::Gr),
+    Verb::Write(Format::Co),
+    Verb::Save(Format::Gr),
+    Verb::Save(Format::Co),
+    Verb::Fresh,
+    Verb::Help,
+];
+
+impl Verb {
+    // The first word of a line with this command.
+    #[tactic(auto, unfolding(crate::specs::Verbs::name_of))]
+    fn name(self) -> &'static [u8]
+        ensures { result.now ≡ name_of self }
+    {
+        match self {
+            Verb::N => b"n",
+            Verb::M => b"m",
+            Verb::Lend => b"lend",
+            Verb::Show => b"show",
+            Verb::Read(Reading::Gr) => b"gr",
+            Verb::Read(Reading::Co) => b"co",
+            Verb::Read(Reading::P2p) => b"p2p",
+            Verb::Build => b"build",
+            Verb::Check => b"check",
+            Verb::Update => b"update",
+            Verb::Search => b"search",
+            Verb::Boxed => b"boxed",
+            Verb::Why => b"why",
+            Verb::Write(_) => b"write",
+            Verb::Save(_) => b"save",
+            Verb::Fresh => b"fresh",
+            Verb::Help => b"help",
+        }
+    }
+
+    // Whether a line's first two words name it. Of `write` and `save` the kind of file is a part of the name.
+    #[tactic(auto, unfolding(crate::specs::Verbs::is_called))]
+    fn is_called(self, first: &[u8], second: &[u8]) -> bool
+        ensures { result ≡ is_called first.now second.now self }
+    {
+        if self.name() != first {
+            return false;
+        }
+        match self {
+            Verb::Write(Format::Gr) | Verb::Save(Format::Gr) => second == b"gr".as_slice(),
+            Verb::Write(Format::Co) | Verb::Save(Format::Co) => second == b"co".as_slice(),
+            _ => true,
+        }
+    }
+}
+
+// The command that a line's first two words name.
+pub fn verb_of(first: &[u8], second: &[u8]) -> Option<Verb>
     ensures { result ≡ verb_of first.now second.now }
 {
-    let format = format_of(second);
-    match place_of(
-        first,
-        b"n m lend show gr co p2p build check update search boxed why write save fresh help",
-    ) {
-        0 => Verb::N,
-        1 => Verb::M,
-        2 => Verb::Lend,
-        3 => Verb::Show,
-        4 => Verb::Read(Reading::Gr),
-        5 => Verb::Read(Reading::Co),
-        6 => Verb::Read(Reading::P2p),
-        7 => Verb::Build,
-        8 => Verb::Check,
-        9 => Verb::Update,
-        10 => Verb::Search,
-        11 => Verb::Boxed,
-        12 => Verb::Why,
-        13 => match format {
-            FormatName::Known(f) => Verb::Write(f),
-            FormatName::Unknown => Verb::NoVerb,
-        },
-        14 => match format {
-            FormatName::Known(f) => Verb::Save(f),
-            FormatName::Unknown => Verb::NoVerb,
-        },
-        15 => Verb::Fresh,
-        16 => Verb::Help,
-        _ => Verb::NoVerb,
-    }
+    VERBS
+        .iter()
+        .copied()
+        .find(|verb| verb.is_called(first, second))
 }
 
 // Whether a line with this command may have so many words, the command included.
@@ -98,21 +118,11 @@ pub fn takes(verb: Verb, words: usize) -> bool
     ensures { result ≡ takes_words verb words }
 {
     match verb {
-        Verb::N => words == 2,
-        Verb::M => words == 2,
+        Verb::Build | Verb::Check | Verb::Fresh | Verb::Help => words == 1,
+        Verb::N | Verb::M | Verb::Read(_) | Verb::Write(_) => words == 2,
+        Verb::Search | Verb::Boxed | Verb::Save(_) => words == 3,
+        Verb::Update | Verb::Why => words == 4,
+        Verb::Show => words == 2 || words == 3,
         Verb::Lend => 2 <= words,
-        Verb::Show => (words == 2) | (words == 3),
-        Verb::Read(_reading) => words == 2,
-        Verb::Build => words == 1,
-        Verb::Check => words == 1,
-        Verb::Update => words == 4,
-        Verb::Search => words == 3,
-        Verb::Boxed => words == 3,
-        Verb::Why => words == 4,
-        Verb::Write(_format) => words == 2,
-        Verb::Save(_format) => words == 3,
-        Verb::Fresh => words == 1,
-        Verb::Help => words == 1,
-        Verb::NoVerb => true,
     }
 }

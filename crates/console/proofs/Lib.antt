@@ -1,3 +1,2 @@
 mod AnswerLaws
-mod HeardLaws
 pub mod Unique

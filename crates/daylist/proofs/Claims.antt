@@ -9,10 +9,9 @@ use lib.IntN.{ℤ}
 use lib.ListN.{length, get_or, drop, replicate}
 use borrow.Author.Tests.{le-leb}
 use Rattle.rules.specs.Paper.{Reply, accepted, refusal}
-use Rattle.rules.specs.Judging.{or_else}
+use Rattle.std.specs.Prelude.{Ok, Err}
+use Rattle.rules.specs.Judging.{Judged, fine, or_else}
 use Rattle.rules.proofs.PaperLaws.{refusal_injective}
-use Rattle.rules.specs.declared.Judged.{Judged}
-use Rattle.rules.specs.declared.Judged.TheVariants.{Fine, Refused}
 use Rattle.rules.specs.declared.Refusal.{Refusal}
 use Rattle.scan.specs.Fields.{none}
 use Rattle.scan.specs.declared.holding.Numbers.{Numbers}
@@ -28,7 +27,7 @@ use Rattle.judging.specs.Order.{network_judged, searched_by, shaped_by, search_j
 use Rattle.search.specs.Says as search
 use Rattle.search.specs.Says.{Answers}
 use Rattle.search.proofs.SaysLaws.{answers_unique}
-use Rattle.daylist.specs.Replies.{Replies, then, has_route, no_route, entry, with_route, with_none, total}
+use Rattle.daylist.specs.Replies.{Replies, then, has_route, length_told, no_route, entry, with_route, with_none, total}
 use Rattle.daylist.specs.Says.{DaySays, text_refused, rows-refused, answered}
 use Rattle.daylist.specs.Claims as claims
 use Rattle.daylist.specs.Claims.{Separate, no_more}
@@ -87,10 +86,10 @@ module _ (text : List ℕ) (n m : ℕ) (R : Rows) (x y boxes : List ℤ) (before
 
       by_rows : (problem : Numbers) (queries : List Numbers) (j : Judged) → read_p2p text n before ≡ read problem queries → day_judged boxes_alone n m R (box_signs x y boxes) ≡ j
           → claims.ExactlyOne text n m R x y boxes before
-      by_rows problem queries Fine e f =
+      by_rows problem queries (Ok tt) e f =
           let r = some_replies (day_lent n m R x y boxes f).sound x y boxes queries (read_named text n before problem queries e) in
           only _ _ (answered e f r.1)
-      by_rows problem queries (Refused r) e f = only _ _ (rows-refused e f)
+      by_rows problem queries (Err r) e f = only _ _ (rows-refused e f)
 
       by_text : (o : Outcome) → read_p2p text n before ≡ o → claims.ExactlyOne text n m R x y boxes before
       by_text (read problem queries) e = by_rows problem queries (day_judged boxes_alone n m R (box_signs x y boxes)) e refl
@@ -98,9 +97,9 @@ module _ (text : List ℕ) (n m : ℕ) (R : Rows) (x y boxes : List ℤ) (before
 
 -- ---- separate searches
 
-or_fine : (j : Judged) → or_else j Fine ≡ j
-or_fine Fine = refl
-or_fine (Refused r) = refl
+or_fine : (j : Judged) → or_else j fine ≡ j
+or_fine (Ok tt) = refl
+or_fine (Err r) = refl
 
 module _ (n m : ℕ) (R : Rows) (x y boxes : List ℤ) where
   -- a search whose ends are nodes, and whose route row has n places, is judged as the list is
@@ -115,7 +114,7 @@ module _ (n m : ℕ) (R : Rows) (x y boxes : List ℤ) where
   bare (search.found f) = (_, search.found f)
   bare (search.none f) = (_, search.none f)
 
-  pub separate_replies : day_judged boxes_alone n m R (box_signs x y boxes) ≡ Fine → {queries : List Numbers} {replies : List Reply} → Named n queries → Separate n m R x y boxes queries replies
+  pub separate_replies : day_judged boxes_alone n m R (box_signs x y boxes) ≡ fine → {queries : List Numbers} {replies : List Reply} → Named n queries → Separate n m R x y boxes queries replies
       → Replies n m R x y boxes queries replies
   separate_replies fine h no_more = Replies.none
   separate_replies fine {queries = q ∷ queries} h (claims.then {route = route} long (search.refused e) more) =
@@ -125,7 +124,7 @@ module _ (n m : ℕ) (R : Rows) (x y boxes : List ℤ) where
   separate_replies fine {queries = q ∷ queries} h (claims.then long (search.answered e a) more) =
       then (bare a).1 (separate_replies fine (named_rest n q queries h) more)
 
-  separate_refused : (r : Refusal) → day_judged boxes_alone n m R (box_signs x y boxes) ≡ Refused r → {queries : List Numbers} {replies : List Reply} → Named n queries
+  separate_refused : (r : Refusal) → day_judged boxes_alone n m R (box_signs x y boxes) ≡ Err r → {queries : List Numbers} {replies : List Reply} → Named n queries
       → Separate n m R x y boxes queries replies → replies ≡ replicate (length queries) (refusal r)
   separate_refused r judged h no_more = refl
   separate_refused r judged {queries = q ∷ queries} h (claims.then {route = route} long (search.refused {r = r'} e) more) =
@@ -141,7 +140,7 @@ module _ (n m : ℕ) (R : Rows) (x y boxes : List ℤ) where
 module _ (text : List ℕ) (n m : ℕ) (R : Rows) (x y boxes : List ℤ) (before : List ℕ) where
   -- what an accepted list says
   record Ran (problem : Numbers) (queries : List Numbers) (results after : List ℕ) : Type 0 where
-    pub fine : day_judged boxes_alone n m R (box_signs x y boxes) ≡ Fine
+    pub fine : day_judged boxes_alone n m R (box_signs x y boxes) ≡ fine
     pub replies : List Reply
     pub each : Replies n m R x y boxes queries replies
     pub told : results ≡ with_route replies ∷ with_none replies ∷ total replies ∷ []
@@ -171,7 +170,7 @@ module _ (text : List ℕ) (n m : ℕ) (R : Rows) (x y boxes : List ℤ) (before
   refused-keeps r after says = kept r says refl
 
   by_rows : (problem : Numbers) (queries : List Numbers) (r : Refusal) {reply : Reply} {after : List ℕ} → read_p2p text n before ≡ read problem queries
-      → DaySays text n m R x y boxes before reply after → reply ≡ refusal r → day_judged boxes_alone n m R (box_signs x y boxes) ≡ Refused r
+      → DaySays text n m R x y boxes before reply after → reply ≡ refusal r → day_judged boxes_alone n m R (box_signs x y boxes) ≡ Err r
   by_rows problem queries r e (text_refused d) f = absurd (let z : ◌≡◌ {A = ℕ} 0 1 = cc in omega arith)
   by_rows problem queries r e (rows-refused {r = r'} d j) f = rw (← refusal_injective r' r f) j
   by_rows problem queries r e (answered d j rs) f = absurd (not_accepted r _ (sym f))
@@ -189,14 +188,11 @@ module _ {n m : ℕ} {R : Rows} (sound : Sound n m R) (x y boxes : List ℤ) whe
   marked s t low high (search.found {d = d} {k = k} {c = c} f) =
       let a = (some_asked sound x y boxes s t low high).1 in
       let same : a.reply ≡ accepted (d ∷ k ∷ c ∷ []) = (answers_unique a.answers (search.found f)).0 in
-      let near : d ≤ 511_000_000 = limit a.reply same a.told a.near in
+      let near : d ≤ 511_000_000 = limit a.reply same a.near in
       (λ e. absurd (omega arith), λ h. absurd (h (record { length = d; count = k; walk = f.best.walk })))
     where
-      limit : (reply : Reply) → reply ≡ accepted (d ∷ k ∷ c ∷ []) → {l : ℕ} → l ≡ entry reply → (has_route reply ≡ true → l ≤ 511_000_000) → d ≤ 511_000_000
-      limit reply e told near =
-          let has : has_route reply ≡ true = rw e in
-          let is : entry reply ≡ d = rw e in
-          omega (arith, told ∙ is, near has)
+      limit : (reply : Reply) → reply ≡ accepted (d ∷ k ∷ c ∷ []) → (has_route reply ≡ true → length_told reply ≤ 511_000_000) → d ≤ 511_000_000
+      limit reply e near = rw e at near refl
   marked s t low high (search.none f) = (λ e. f.none, λ h. refl)
 
   marked-at : (queries : List Numbers) {replies : List Reply} (rest : List ℕ) → Named n queries → Replies n m R x y boxes queries replies → (i : ℕ) → i < length queries

@@ -9,6 +9,7 @@ use lib.IntN.{ℤ}
 use lib.Dec.{ltb}
 use lib.ListN.{replicate, length-replicate}
 use borrow.Author.Tests.{lt-ltb, le-ltb}
+use Rattle.std.specs.Prelude.{Option, Some, None}
 use Rattle.rules.specs.Paper.{accepted, refusal}
 use Rattle.rules.specs.declared.Refusal.TheVariants.{NoWalk}
 use Rattle.walks.specs.Walk.{kept}
@@ -24,7 +25,6 @@ use Rattle.settling.specs.Run.{search_of}
 use Rattle.settling.proofs.Choice.{either}
 use Rattle.settling.proofs.SearchIsRight.{search_found, search_missed}
 use Rattle.search.specs.Says.{found, none}
-use Rattle.daylist.specs.Replies.{has_route, no_route}
 use Rattle.daylist.specs.Steps.{Queried}
 
 module _ {n m : ℕ} {R : Rows} (sound : Sound n m R) (x y boxes : List ℤ) (s t : ℕ) (low : 1 ≤ s) (high : s ≤ n) where
@@ -35,7 +35,7 @@ module _ {n m : ℕ} {R : Rows} (sound : Sound n m R) (x y boxes : List ℤ) (s 
   held-arcs : Alike (kept keep (laid m R)) (passing boxes_alone (box_signs x y boxes) t (network m R))
   held-arcs = tested_arcs boxes_alone (box_signs x y boxes) t m R (λ h. absurd (false≢true h))
 
-  missed_asked : (search_of R keep n m t s).found ≡ false → Queried n m R x y boxes s t no_route
+  missed_asked : (search_of R keep n m t s).found ≡ false → Queried n m R x y boxes s t None
   missed_asked e = record {
     reply = refusal (NoWalk (search_of R keep n m t s).count);
     route = [];
@@ -44,7 +44,7 @@ module _ {n m : ℕ} {R : Rows} (sound : Sound n m R) (x y boxes : List ℤ) (s 
     near = λ z. absurd (false≢true z);
   }
 
-  found-asked : (search_of R keep n m t s).found ≡ true → Queried n m R x y boxes s t (length_of (search_of R keep n m t s).labels t)
+  found-asked : (search_of R keep n m t s).found ≡ true → Queried n m R x y boxes s t (Some (length_of (search_of R keep n m t s).labels t))
   found-asked e =
       let o = search_of R keep n m t s in
       let a = search_found sound low high t e (replicate n 0) (omega (arith, length-replicate {A = ℕ} n 0)) in
@@ -58,23 +58,15 @@ module _ {n m : ℕ} {R : Rows} (sound : Sound n m R) (x y boxes : List ℤ) (s 
 
   -- o is what the run ends with
   module _ {o : Outcome} (run : o ≡ search_of R keep n m t s) where
-    pub none_told : o.found ≡ false → Queried n m R x y boxes s t no_route
+    pub none_told : o.found ≡ false → Queried n m R x y boxes s t None
     none_told e = missed_asked (rw run at e)
 
-    pub length_told_lem : o.found ≡ true → Queried n m R x y boxes s t (length_of o.labels t)
+    pub length_told_lem : o.found ≡ true → Queried n m R x y boxes s t (Some (length_of o.labels t))
     length_told_lem e = rw run (found-asked (rw run at e))
 
   -- so every query has an answer
-  pub some_asked : (l : ℕ) × Queried n m R x y boxes s t l
+  pub some_asked : (l : Option ℕ) × Queried n m R x y boxes s t l
   some_asked = elim (either (search_of R keep n m t s).found) [
-    | inl e ↦ (length_of (search_of R keep n m t s).labels t, found-asked e)
-    | inr e ↦ (no_route, missed_asked e)
+    | inl e ↦ (Some (length_of (search_of R keep n m t s).labels t), found-asked e)
+    | inr e ↦ (None, missed_asked e)
   ]
-
--- the mark tells whether there is a route
-pub told-route : {n m : ℕ} {R : Rows} {x y boxes : List ℤ} {s t l : ℕ} (a : Queried n m R x y boxes s t l) → has_route a.reply ≡ ltb l no_route
-told-route {l = l} a = by_route (has_route a.reply) refl
-  where
-    by_route : (z : Bool) → has_route a.reply ≡ z → z ≡ ltb l no_route
-    by_route true e = sym (lt-ltb l no_route (omega (arith, a.near e)))
-    by_route false e = sym (le-ltb l no_route (let same : l ≡ no_route = a.told ∙ rw e in omega arith))

@@ -2,51 +2,35 @@
 ghost use Rattle.std.specs.Prelude.{◌≤◌, length};
 ghost use Rattle.dimacs.specs.Accepted.{P2pLimits};
 ghost use Rattle.frontier.specs.Chain.{Chained};
-ghost use Rattle.walks.specs.Rows.{rows};
+ghost use Rattle.walks.specs.Judged.{rows_in};
 ghost use Rattle.daylist.specs.Steps.{Lent, Queried, AllAnswered};
 
-use crate::counting::{NO_ROUTE, Totals, count};
-use frontier::chain::link;
-use passing::tests_toward;
+use crate::Totals;
+use crate::counting::NO_ROUTE;
+use frontier::chain::Chain;
+use passing::Signs;
 use rules::Asked;
 use settling::run::run_along;
+use settling::task::Task;
+use walks::tracks::Tracks;
 
-// What the search with boxes from `s` to `t` finds, along arcs that are lent chained: the length, or the mark of no route.
-fn ask(
-    s: usize,
-    t: usize,
-    n: usize,
-    m: usize,
-    tails: &[u32],
-    heads: &[u32],
-    weights: &[u32],
-    closures: &[u8],
-    first: &[u32; 512],
-    next: &[u32; 2048],
-    x: &[i32],
-    y: &[i32],
-    boxes: &[i32],
-) -> u32
-    requires { Lent n m (rows tails.now heads.now weights.now closures.now) x.now y.now boxes.now × Chained m tails.now first.now next.now × (1 ≤ s) × (s ≤ n) × (1 ≤ t) × (t ≤ n) }
-    ensures { Queried n m (rows tails.now heads.now weights.now closures.now) x.now y.now boxes.now s t result }
+// The length that the search with boxes from `s` to `t` finds, if there is a route. The chain is that of the arcs by their tails.
+fn ask(s: usize, t: usize, tracks: Tracks, signs: Signs, chain: &Chain) -> Option<u32>
+    requires { Lent tracks.n tracks.m (rows_in tracks) signs.nodes.x.now signs.nodes.y.now signs.boxes.now × Chained tracks.m tracks.tails.now chain.now.first chain.now.next × (1 ≤ s) × (s ≤ tracks.n) × (1 ≤ t) × (t ≤ tracks.n) }
+    ensures { let G = signs.entry in Queried tracks.entry.n tracks.entry.m (rows_in tracks.entry) G.nodes.x.now G.nodes.y.now G.boxes.now s t result }
 {
-    // boxes alone are asked
-    let asked = Asked {
-        boxes: true,
-        masks: false,
+    let sieve = signs.toward(Asked::BOXES, t);
+    let task = Task {
+        s,
+        t,
+        tracks,
+        sieve,
     };
-    let modules = [0u32; 1];
-    let masks = [0u32; 1];
-    let tests = tests_toward(asked, x, y, &modules, t);
-    let o = run_along(
-        s, t, n, m, tails, heads, weights, closures, first, next, tests, boxes, &masks,
-    );
-    let labels = o.labels;
-    let found = o.found;
-    if !found {
-        return NO_ROUTE;
+    let outcome = run_along(task, chain);
+    if !outcome.found {
+        return None;
     }
-    labels.length[t - 1]
+    Some(outcome.labels.length[t - 1])
 }
 
 // Answers the first k queries. The arcs are chained once for all of them.
@@ -54,48 +38,24 @@ pub fn answer_each(
     k: usize,
     sources: &[u32; 256],
     targets: &[u32; 256],
-    n: usize,
-    m: usize,
-    tails: &[u32],
-    heads: &[u32],
-    weights: &[u32],
-    closures: &[u8],
-    x: &[i32],
-    y: &[i32],
-    boxes: &[i32],
+    tracks: Tracks,
+    signs: Signs,
     answers: &mut [u32],
 ) -> Totals
-    requires { Lent n m (rows tails.now heads.now weights.now closures.now) x.now y.now boxes.now × P2pLimits n k sources.now targets.now × (256 ≤ length answers.old) }
-    ensures { AllAnswered n m (rows tails.now heads.now weights.now closures.now) x.now y.now boxes.now k sources.now targets.now answers.old answers.new result }
+    requires { Lent tracks.n tracks.m (rows_in tracks) signs.nodes.x.now signs.nodes.y.now signs.boxes.now × P2pLimits tracks.n k sources.now targets.now × (256 ≤ length answers.old) }
+    ensures { let G = signs.entry in AllAnswered tracks.entry.n tracks.entry.m (rows_in tracks.entry) G.nodes.x.now G.nodes.y.now G.boxes.now k sources.now targets.now answers.old answers.new result }
 {
-    let mut first = [m as u32; 512];
-    let mut next = [0u32; 2048];
-    link(m, tails, &mut first, &mut next);
+    let chain = Chain::link(tracks.m, tracks.tails);
     let mut totals = Totals {
         found: 0,
         none: 0,
         sum: 0,
     };
-    let mut i = 0;
-    while i < k {
-        let l = ask(
-            sources[i] as usize,
-            targets[i] as usize,
-            n,
-            m,
-            tails,
-            heads,
-            weights,
-            closures,
-            &first,
-            &next,
-            x,
-            y,
-            boxes,
-        );
-        answers[i] = l;
-        totals = count(totals, l);
-        i += 1;
+    for i in 0..k {
+        let (s, t) = (sources[i] as usize, targets[i] as usize);
+        let answer = ask(s, t, tracks, signs, &chain);
+        answers[i] = answer.unwrap_or(NO_ROUTE);
+        totals = totals.with(answer);
     }
     totals
 }

@@ -1,95 +1,45 @@
 // A day's running list: the queries of a text, answered in order on one network and set of boxes.
 #![tactic(auto)]
 
-ghost use Rattle.std.specs.Prelude.{◌≤◌, length};
-ghost use Rattle.dimacs.specs.Accepted.{P2pLimits};
-ghost use Rattle.walks.specs.Rows.{rows};
+ghost use Rattle.walks.specs.Lent.{rows_of};
 ghost use Rattle.daylist.specs.Paper.{paper};
 ghost use Rattle.daylist.specs.Says.{DaySays};
-ghost use Rattle.daylist.specs.Steps.{ReadSays};
 
 use asking::answer_each;
-use dimacs::{P2pReply, read_p2p};
-use judging::network::judge_shaped;
-use rules::{Asked, Judged, Refusal};
+use dimacs::read_p2p;
+use judging::judge_check;
+use passing::Signs;
+use rules::{Asked, Refusal};
+use walks::Network;
 
 mod asking;
 mod counting;
 
-// A list was run: how many queries had a route, how many had none, and the sum of the lengths found. Or why it was refused.
-#[derive(Drop)]
-pub enum Day {
-    Ran { found: u32, none: u32, sum: u64 },
-    Refused(Refusal),
-}
-
-// Judges the rows, once for the whole list, and answers the first k queries.
-fn answer_read(
-    k: u32,
-    sources: &[u32; 256],
-    targets: &[u32; 256],
-    n: u32,
-    m: u32,
-    tails: &[u32],
-    heads: &[u32],
-    weights: &[u32],
-    closures: &[u8],
-    x: &[i32],
-    y: &[i32],
-    boxes: &[i32],
-    answers: &mut [u32],
-) -> Day
-    requires { P2pLimits n k sources.now targets.now × (256 ≤ length answers.old) }
-    ensures { ReadSays n m (rows tails.now heads.now weights.now closures.now) x.now y.now boxes.now k sources.now targets.now answers.old (paper result) answers.new }
-{
-    // boxes alone are asked
-    let asked = Asked {
-        boxes: true,
-        masks: false,
-    };
-    let modules = [0u32; 1];
-    let masks = [0u32; 1];
-    let j = judge_shaped(
-        asked, n, m, tails, heads, weights, closures, x, y, boxes, &modules, &masks, true,
-    );
-    let Judged::Refused(r) = j else {
-        let totals = answer_each(
-            k as usize, sources, targets, n as usize, m as usize, tails, heads, weights, closures,
-            x, y, boxes, answers,
-        );
-        return Day::Ran {
-            found: totals.found,
-            none: totals.none,
-            sum: totals.sum,
-        };
-    };
-    Day::Refused(r)
+// Of a list that was run: how many queries had a route, how many had none, and the sum of the lengths found.
+#[derive(Clone, Copy)]
+pub struct Totals {
+    pub found: u32,
+    pub none: u32,
+    pub sum: u64,
 }
 
 // Answers each query of a day's list by a search with boxes: the lengths go into the first K places of `answers`, in order,
-// 4,294,967,295 for no route.
+// 4,294,967,295 for no route. The rows are judged once for the whole list.
 pub fn answer_all(
     text: &[u8],
-    n: u32,
-    m: u32,
-    tails: &[u32],
-    heads: &[u32],
-    weights: &[u32],
-    closures: &[u8],
+    net: Network,
     x: &[i32],
     y: &[i32],
     boxes: &[i32],
     answers: &mut [u32],
-) -> Day
-    ensures { DaySays text.now n m (rows tails.now heads.now weights.now closures.now) x.now y.now boxes.now answers.old (paper result) answers.new }
+) -> Result<Totals, Refusal>
+    ensures { DaySays text.now net.entry.n net.entry.m (rows_of net.entry) x.now y.now boxes.now answers.old (paper result) answers.new }
 {
-    let mut sources = [0u32; 256];
-    let mut targets = [0u32; 256];
-    let reply = read_p2p(text, n, answers, &mut sources, &mut targets);
-    match reply {
-        P2pReply::Refused(r) => Day::Refused(r),
-        P2pReply::Read(k) => answer_read(
-            k, &sources, &targets, n, m, tails, heads, weights, closures, x, y, boxes, answers,
-        ),
-    }
+    let mut sources = [0; 256];
+    let mut targets = [0; 256];
+    let k = read_p2p(text, net.n, answers, &mut sources, &mut targets)?;
+    let signs = Signs::of_boxes(x, y, boxes);
+    judge_check(Asked::BOXES, net, signs)?;
+    let totals = answer_each(k as usize, &sources, &targets, net.tracks(), signs, answers);
+    Ok(totals)
 }

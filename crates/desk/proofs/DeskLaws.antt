@@ -1,11 +1,11 @@
 -- Rows that are given back as they were leave the stores as they were.
 use Prim.Native.Nat.{ℕ, zero, suc, ◌+◌, ◌≤◌}
-use mathlib.Core.Path.{◌≡◌, refl, ap}
+use mathlib.Core.Path.{◌≡◌, refl, sym, ap, ◌∙◌}
 use mathlib.Core.List.{List, [], ◌∷◌, ◌++◌}
 use native.Mathlib.Omega.{arith}
 use native.Mathlib.Nat.{le_of_suc-le-suc, not-suc-le-zero}
 use lib.ListN.{length, take, drop, take-append-drop}
-use lib.Seq.{drop-drop}
+use lib.Seq.{drop-drop, length-take-le, take-append_seam}
 use Rattle.commands.specs.declared.rows.Stretch.{Stretch}
 use Rattle.lending.specs.Stores.{lent_at, part_at, put_at}
 use Rattle.lending.specs.declared.rows.Lent.{Lent}
@@ -49,3 +49,9 @@ past (suc a) (suc b) (suc end) values (x ∷ store) e h = past a b end values st
 pub part_past : {A : Type 0} (lent : Lent) (s later : Stretch) (values store : List A) → s.start + length values ≤ later.start → part_at lent later (put_at s values store) ≡ part_at lent later store
 unfolding part_at put_at
 part_past lent s later values store h = ap (take (lent_at lent later)) (past s.start later.start (s.start + length values) values store refl h)
+
+-- a copy of a row's lent places, with what was left in them
+pub copied_back : {A : Type 0} (k : ℕ) (held values : List A) → k ≤ length held → length values ≡ length (take k held) → take k (values ++ drop k held) ≡ values
+copied_back k held values h e =
+    let same : k ≡ length values = sym (e ∙ length-take-le k held h) in
+    ap (λ (n : ℕ). take n (values ++ drop k held)) same ∙ take-append_seam values (drop k held)

@@ -1,4 +1,3 @@
 pub mod DeskLaws
 pub mod RequestLaws
 pub mod Unique
-pub mod WrittenLaws

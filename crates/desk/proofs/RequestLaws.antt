@@ -1,89 +1,111 @@
 -- What is said of the rows that were copied is said of the desk.
-use mathlib.Core.Path.{◌≡◌, sym, subst}
-use mathlib.Core.List.{List}
-use Prim.Native.Nat.{ℕ, ◌≤◌}
-use native.Mathlib.Omega.{arith}
-use lib.ListN.{length}
-use lib.IntN.{ℤ}
-use Rattle.walks.specs.Rows.{rows}
-use Rattle.files.specs.File.{Held}
-use Rattle.pages.specs.Page.{Puts, Printed}
+use Rattle.std.proofs.Common.{◌≡◌, refl, ap, ℕ, ◌≤◌, ℤ, List, length, take, Result, Ok, Err, arith}
+use Rattle.rules.specs.declared.Refusal.{Refusal}
+use Rattle.rules.specs.declared.Sizes.{Sizes}
+use Rattle.walks.specs.Rows.{Rows, rows, open_rows}
+use Rattle.walks.specs.Lent.{rows_of}
+use Rattle.walks.specs.declared.Network.{Network}
+use Rattle.files.specs.File.{Held, text, unread}
 use Rattle.commands.specs.Rows.{stretch_of, places_of}
 use Rattle.commands.specs.declared.Call.{Call}
-use Rattle.commands.specs.declared.Request.{Request}
 use Rattle.commands.specs.declared.Request.TheVariants as request
-use Rattle.commands.specs.declared.rows.Row.TheVariants.{Tails, Heads, Weights, Closed, X, Y, Boxes, Route, Answers}
-use Rattle.commands.specs.declared.verbs.Reading.{Reading}
+use Rattle.commands.specs.declared.rows.Row.TheVariants.{Tails, Heads, Weights, Closed, X, Y, Boxes, Route, Text, Answers}
+use Rattle.commands.specs.declared.verbs.Format.{Format}
 use Rattle.commands.specs.declared.verbs.Reading.TheVariants as reading
-use Rattle.lending.specs.Stores.{put_at}
-use Rattle.calls.specs.Calls.{given, Makes}
+use Rattle.lending.specs.Stores.{put_at, row}
+use Rattle.lending.specs.declared.Desk.{Desk}
+use Rattle.replies.specs.Replies.{written_line, unsaved_line}
+use Rattle.calls.specs.Calls.{given, sizes_of, Makes}
 use Rattle.calls.specs.Texts.{ReadsGraph, ReadsPlaces, RunsDay}
-use Rattle.calls.specs.declared.Sizes.{Sizes}
-use Rattle.desk.specs.Desk.{Desk, desk, row, arc_rows, given_back}
-use Rattle.desk.specs.Requests.{Meets, Met, Reads, ReadFrom}
+use Rattle.calls.specs.Writing.{TextWrites, Saves}
+use Rattle.desk.specs.Desk.{arc_rows, lent_rows, given_back}
+use Rattle.desk.specs.Requests.{DeskWrites, Meets, Reads, HasSaved}
 use Rattle.desk.proofs.DeskLaws.{put_same, part_past}
 
--- what is met or read in a case is so of what is known to be that case
-pub met_case : {before after : Desk} {r case : Request} {page page' : List ℕ} {end : ℕ} → r ≡ case → Met before case after page end page' → Met before r after page end page'
-met_case {before} {after} {page = page} {page' = page'} {end = end} e o = subst (λ (x : Request). Met before x after page end page') (sym e) o
+-- what a call leaves, where it writes the weights, the closures and the boxes, or the route
+abbrev with_counts : Desk → List ℕ → List ℤ → List ℕ → Desk
+with_counts d counts numbers bytes = record { sizes = d.sizes; lent = d.lent; counts = counts; numbers = numbers; bytes = bytes }
 
-pub met : {before after : Desk} {r case : Request} {page page' : List ℕ} {end : ℕ} {reply : List ℕ} → r ≡ case → Meets before case reply after → Puts reply 0 page end page'
-    → Met before r after page end page'
-met {reply = reply} e m p = met_case e (record { text = reply; says = m; puts = p })
+module _ (d : Desk) {c : Call} {reply : List ℕ} where
+  -- all its rows are given back as they were
+  pub left_as : Makes d.sizes (lent_rows d) c reply (lent_rows d) → Meets d (request.Call c) reply d
+  left_as m =
+      let says : Meets d (request.Call c) reply (given_back (lent_rows d) d) = Meets.called m in
+      rw (put_same d.lent (stretch_of Weights) d.counts, put_same d.lent (stretch_of Closed) d.bytes, put_same d.lent (stretch_of Boxes) d.numbers, put_same d.lent (stretch_of Route) d.counts) at says
 
-pub read_case : {held : Held} {before after : Desk} {r case : Reading} {page page' : List ℕ} {end : ℕ} → r ≡ case → ReadFrom held before case after page end page'
-    → ReadFrom held before r after page end page'
-read_case {held} {before} {after} {page = page} {page' = page'} {end = end} e o = subst (λ (x : Reading). ReadFrom held before x after page end page') (sym e) o
+  pub drew : {boxes : List ℤ} → Makes d.sizes (lent_rows d) c reply (given (arc_rows d) (row X d) (row Y d) boxes (row Route d))
+      → Meets d (request.Call c) reply (with_counts d d.counts (put_at (stretch_of Boxes) boxes d.numbers) d.bytes)
+  drew {boxes} m =
+      let says : Meets d (request.Call c) reply (given_back (given (arc_rows d) (row X d) (row Y d) boxes (row Route d)) d) = Meets.called m in
+      rw (put_same d.lent (stretch_of Weights) d.counts, put_same d.lent (stretch_of Closed) d.bytes, put_same d.lent (stretch_of Route) d.counts) at says
 
--- ---- the rows that were copied held what was lent, and what is left in them is put back
+  pub changed_as : {weights closures : List ℕ} {boxes : List ℤ}
+      → Makes d.sizes (lent_rows d) c reply (given (rows (row Tails d) (row Heads d) weights closures) (row X d) (row Y d) boxes (row Route d))
+      → length weights ≤ places_of Weights
+      → Meets d (request.Call c) reply (with_counts d (put_at (stretch_of Weights) weights d.counts) (put_at (stretch_of Boxes) boxes d.numbers) (put_at (stretch_of Closed) closures d.bytes))
+  changed_as {weights} {closures} {boxes} m few =
+      let left = given (rows (row Tails d) (row Heads d) weights closures) (row X d) (row Y d) boxes (row Route d) in
+      let says : Meets d (request.Call c) reply (given_back left d) = Meets.called m in
+      let same = put_same d.lent (stretch_of Route) (put_at (stretch_of Weights) weights d.counts) in
+      let kept = part_past d.lent (stretch_of Weights) (stretch_of Route) weights d.counts (omega (arith, few)) in
+      rw (rw kept at same) at says
 
-module _ (d : Desk) {page page' : List ℕ} {end : ℕ} where
-  module _ {c : Call} {tails heads weights closures : List ℕ} {x y boxes : List ℤ} (a : tails ≡ row Tails d) (b : heads ≡ row Heads d) (e : weights ≡ row Weights d)
-      (o : closures ≡ row Closed d) (f : x ≡ row X d) (g : y ≡ row Y d) (h : boxes ≡ row Boxes d) where
-    pub worked_as : {weights' closures' counts bytes : List ℕ} {boxes' numbers : List ℤ}
-        → ((route : List ℕ) → Printed (λ reply. Makes d.sizes (given (rows tails heads weights closures) x y boxes route) c reply (given (rows tails heads weights' closures') x y boxes' route)) page end page')
-        → counts ≡ put_at (stretch_of Weights) weights' d.all.counts → bytes ≡ put_at (stretch_of Closed) closures' d.all.bytes
-        → numbers ≡ put_at (stretch_of Boxes) boxes' d.all.numbers → length weights' ≤ places_of Weights
-        → Met d (request.Call c) (desk d.sizes d.lent counts numbers bytes) page end page'
-    worked_as {weights' = weights'} {closures' = closures'} {boxes' = boxes'} r p v q few =
-        let made = r (row Route d) in
-        let same = put_same d.lent (stretch_of Route) (put_at (stretch_of Weights) weights' d.all.counts) in
-        let kept = part_past d.lent (stretch_of Weights) (stretch_of Route) weights' d.all.counts (omega (arith, few)) in
-        let left = given (rows (row Tails d) (row Heads d) weights' closures') (row X d) (row Y d) boxes' (row Route d) in
-        let says : Meets d (request.Call c) made.text (given_back left d) = Meets.called (rw (a, b, e, o, f, g, h) at made.says) in
-        record { text = made.text; says = rw (p, v, q) (rw (rw kept at same) at says); puts = made.puts }
+  pub routed : {route : List ℕ} → Makes d.sizes (lent_rows d) c reply (given (arc_rows d) (row X d) (row Y d) (row Boxes d) route)
+      → Meets d (request.Call c) reply (with_counts d (put_at (stretch_of Route) route d.counts) d.numbers d.bytes)
+  routed {route} m =
+      let says : Meets d (request.Call c) reply (given_back (given (arc_rows d) (row X d) (row Y d) (row Boxes d) route) d) = Meets.called m in
+      rw (put_same d.lent (stretch_of Weights) d.counts, put_same d.lent (stretch_of Closed) d.bytes, put_same d.lent (stretch_of Boxes) d.numbers) at says
 
-    pub travelled_as : {route route' counts : List ℕ} → route ≡ row Route d
-        → Printed (λ reply. Makes d.sizes (given (rows tails heads weights closures) x y boxes route) c reply (given (rows tails heads weights closures) x y boxes route')) page end page'
-        → counts ≡ put_at (stretch_of Route) route' d.all.counts
-        → Met d (request.Call c) (desk d.sizes d.lent counts d.all.numbers d.all.bytes) page end page'
-    travelled_as {route' = route'} i r p =
-        let left = given (arc_rows d) (row X d) (row Y d) (row Boxes d) route' in
-        let says : Meets d (request.Call c) r.text (given_back left d) = Meets.called (rw (a, b, e, o, f, g, h, i) at r.says) in
-        let one = put_same d.lent (stretch_of Weights) d.all.counts in
-        let two = put_same d.lent (stretch_of Boxes) d.all.numbers in
-        let three = put_same d.lent (stretch_of Closed) d.all.bytes in
-        record { text = r.text; says = rw p (rw (one, two, three) at says); puts = r.puts }
+-- the network and the rows that a call was handed are those that are lent on the desk
+module _ (d : Desk) {c : Call} {reply : List ℕ} {sizes : Sizes} {R : Rows} {x y : List ℤ} (n : sizes ≡ d.sizes) (e : R ≡ arc_rows d) (f : x ≡ row X d) (g : y ≡ row Y d) where
+  pub checked_on : {boxes : List ℤ} → boxes ≡ row Boxes d → Makes sizes (given R x y boxes (row Route d)) c reply (given R x y boxes (row Route d)) → Meets d (request.Call c) reply d
+  checked_on h m = left_as d (rw (n, e, f, g, h) at m)
 
-  pub graph_as : {held : Held} {tails heads weights closures tails' heads' weights' closures' one two three bytes : List ℕ} {next : Sizes}
-      → tails ≡ row Tails d → heads ≡ row Heads d → weights ≡ row Weights d → closures ≡ row Closed d
-      → Printed (λ reply. ReadsGraph held d.sizes (rows tails heads weights closures) reply next (rows tails' heads' weights' closures')) page end page'
-      → one ≡ put_at (stretch_of Tails) tails' d.all.counts → two ≡ put_at (stretch_of Heads) heads' one → three ≡ put_at (stretch_of Weights) weights' two
-      → bytes ≡ put_at (stretch_of Closed) closures' d.all.bytes
-      → ReadFrom held d reading.Gr (desk next d.lent three d.all.numbers bytes) page end page'
-  graph_as a b e o r p q s v = record { text = r.text; says = rw (s, q, p, v) (Reads.gr (rw (a, b, e, o) at r.says)); puts = r.puts }
+  pub drew_on : {boxes boxes' : List ℤ} → boxes ≡ row Boxes d → Makes sizes (given R x y boxes (row Route d)) c reply (given R x y boxes' (row Route d))
+      → Meets d (request.Call c) reply (with_counts d d.counts (put_at (stretch_of Boxes) boxes' d.numbers) d.bytes)
+  drew_on h m = drew d (rw (n, e, f, g, h) at m)
 
-  pub places_as : {held : Held} {x y x' y' one two : List ℤ}
-      → x ≡ row X d → y ≡ row Y d
-      → Printed (λ reply. ReadsPlaces held d.sizes.n x y reply x' y') page end page'
-      → one ≡ put_at (stretch_of X) x' d.all.numbers → two ≡ put_at (stretch_of Y) y' one
-      → ReadFrom held d reading.Co (desk d.sizes d.lent d.all.counts two d.all.bytes) page end page'
-  places_as a b r p q = record { text = r.text; says = rw (q, p) (Reads.co (rw (a, b) at r.says)); puts = r.puts }
+  pub routed_on : {boxes : List ℤ} {route route' : List ℕ} → boxes ≡ row Boxes d → route ≡ row Route d → Makes sizes (given R x y boxes route) c reply (given R x y boxes route')
+      → Meets d (request.Call c) reply (with_counts d (put_at (stretch_of Route) route' d.counts) d.numbers d.bytes)
+  routed_on h i m = routed d (rw (n, e, f, g, h, i) at m)
 
-  pub day_as : {held : Held} {tails heads weights closures answers answers' counts : List ℕ} {x y boxes : List ℤ}
-      → tails ≡ row Tails d → heads ≡ row Heads d → weights ≡ row Weights d → closures ≡ row Closed d → x ≡ row X d → y ≡ row Y d → boxes ≡ row Boxes d
-      → answers ≡ row Answers d
-      → Printed (λ reply. RunsDay held d.sizes (rows tails heads weights closures) x y boxes answers reply answers') page end page'
-      → counts ≡ put_at (stretch_of Answers) answers' d.all.counts
-      → ReadFrom held d reading.P2p (desk d.sizes d.lent counts d.all.numbers d.all.bytes) page end page'
-  day_as a b e o f g h i r p = record { text = r.text; says = rw p (Reads.p2p (rw (a, b, e, o, f, g, h, i) at r.says)); puts = r.puts }
+-- ---- what was read of a file
+
+module _ (d : Desk) {held : Held} {reply : List ℕ} where
+  pub graph_on : {R : Rows} {tails heads weights closures : List ℕ} {next : Sizes} → R ≡ arc_rows d → ReadsGraph held d.sizes R reply next (rows tails heads weights closures)
+      → Reads held d reading.Gr reply (record {
+        sizes = next;
+        lent = d.lent;
+        counts = put_at (stretch_of Weights) weights (put_at (stretch_of Heads) heads (put_at (stretch_of Tails) tails d.counts));
+        numbers = d.numbers;
+        bytes = put_at (stretch_of Closed) closures d.bytes;
+      })
+  graph_on e r = Reads.gr (rw e at r)
+
+  pub places_on : {x y x' y' : List ℤ} → x ≡ row X d → y ≡ row Y d → ReadsPlaces held d.sizes.n x y reply x' y'
+      → Reads held d reading.Co reply (with_counts d d.counts (put_at (stretch_of Y) y' (put_at (stretch_of X) x' d.numbers)) d.bytes)
+  places_on a b r = Reads.co (rw (a, b) at r)
+
+  pub day_on : {sizes : Sizes} {R : Rows} {x y boxes : List ℤ} {answers answers' : List ℕ} → sizes ≡ d.sizes → R ≡ arc_rows d → x ≡ row X d → y ≡ row Y d → boxes ≡ row Boxes d
+      → answers ≡ row Answers d → RunsDay held sizes R x y boxes answers reply answers'
+      → Reads held d reading.P2p reply (with_counts d (put_at (stretch_of Answers) answers' d.counts) d.numbers d.bytes)
+  day_on n e f g h i r = Reads.p2p (rw (n, e, f, g, h, i) at r)
+
+-- ---- a text that was written
+
+-- of the rows that are lent on the desk
+pub rows_written : (d : Desk) (format : Format) (N : Network) {x y : List ℤ} {r : Result ℕ Refusal} {old new : List ℕ} → sizes_of N ≡ d.sizes → rows_of N ≡ arc_rows d → x ≡ row X d → y ≡ row Y d
+    → TextWrites format (sizes_of N) (open_rows N.tails.now N.heads.now N.weights.now) x y old r new → DeskWrites d format old r new
+rows_written d format N n e f g w = rw (n, ap (λ (R : Rows). R.tails) e, ap (λ (R : Rows). R.heads) e, ap (λ (R : Rows). R.weights) e, f, g) at w
+
+module _ (d : Desk) {format : Format} {r : Result ℕ Refusal} {old new : List ℕ} (same : old ≡ row Text d) (w : DeskWrites d format old r new) where
+  pub written_on : Meets d (request.Write format) (written_line r) (with_counts d d.counts d.numbers (put_at (stretch_of Text) new d.bytes))
+  written_on = Meets.written (rw same at w)
+
+  pub unsaved_on : {k : ℕ} → r ≡ Ok k → HasSaved d format unsaved_line
+  unsaved_on h = record { held = unread; says = Saves.unsaved (ap length same) (rw h at w) refl }
+
+-- the file holds the text, or what it held where the writer refused
+pub saved_on : (d : Desk) (format : Format) (r : Result ℕ Refusal) {old new : List ℕ} → old ≡ row Text d → DeskWrites d format old r new → HasSaved d format (written_line r)
+saved_on d format (Ok k) {new = new} same w = record { held = text (take k new); says = Saves.saved (ap length same) w refl }
+saved_on d format (Err f) same w = record { held = unread; says = Saves.refused (ap length same) w }

@@ -8,7 +8,7 @@ use Rattle.commands.specs.declared.verbs.Reading.{Reading}
 use Rattle.replies.specs.Replies.{written_line}
 use Rattle.calls.proofs.Unique.{makes_unique, reads_graph_unique, reads_places_unique, runs_day_unique}
 use Rattle.writing.proofs.Unique.{writes_unique}
-use Rattle.desk.specs.Desk.{Desk}
+use Rattle.lending.specs.declared.Desk.{Desk}
 use Rattle.desk.specs.Requests.{Meets, Reads}
 
 pub meets_unique : {d : Desk} {r : Request} {reply reply' : List ℕ} {after after' : Desk} → Meets d r reply after → Meets d r reply' after' → (reply ≡ reply') × (after ≡ after')

@@ -18,28 +18,24 @@ use Rattle.rules.specs.Limits.{most_nodes, most_arcs, most_queries, longest_text
 use Rattle.rules.specs.Judging.{or_else, passes}
 use Rattle.rules.specs.declared.Refusal.{Refusal}
 use Rattle.rules.specs.declared.Refusal.TheVariants.{TextTooLong, RowTooShort, BeyondLimits}
-use Rattle.rules.specs.declared.Judged.TheVariants.{Fine}
 use Rattle.scan.specs.Fields.{none}
 use Rattle.scan.specs.declared.holding.Numbers.{Numbers}
 use Rattle.dimacs.specs.Gr.{gr_rules}
 use Rattle.dimacs.specs.Co.{co_rules}
 use Rattle.dimacs.specs.P2p.{p2p_rules}
 use Rattle.dimacs.specs.Texts.{Outcome, read, refused, read_text}
-use Rattle.dimacs.specs.Rules.{column_of, axis_of}
+use Rattle.dimacs.specs.Rules.{column_of}
 use Rattle.dimacs.specs.Rows.{row, open_row}
 use Rattle.dimacs.specs.Reading.{read_gr, gr_says, read_co, co_says, read_p2p, p2p_says}
 use Rattle.dimacs.specs.Promise.{GrPromise, CoPromise, P2pPromise}
 use Rattle.dimacs.specs.Accepted.{GrLimits, GrOpen, CoLimits, P2pLimits}
-use Rattle.dimacs.specs.declared.GrReply.TheVariants.{Read as GrRead}
-use Rattle.dimacs.specs.declared.CoReply.TheVariants.{Read as CoRead}
-use Rattle.dimacs.specs.declared.P2pReply.TheVariants.{Read as P2pRead}
 use Rattle.dimacs.specs.declared.format.Format.TheVariants.{Graph, Coordinates, Queries}
 use Rattle.dimacs.specs.declared.rows.Column.TheVariants.{First, Second, Third}
-use Rattle.dimacs.specs.declared.rows.Axis.TheVariants.{X, Y}
 use Rattle.dimacs.proofs.Fairness.{Inside, inside}
 use Rattle.dimacs.proofs.Sound.{sound, onward}
 use Rattle.dimacs.proofs.Replies.{gr_room}
 use Rattle.dimacs.proofs.RowLaws.{opened_each, opened_long}
+use Rattle.std.specs.Prelude.{Ok}
 
 -- no refusal is an acceptance
 pub not_accepted : (r : Refusal) (results : List ℕ) → refusal r ≡ accepted results → ⊥
@@ -111,8 +107,8 @@ gr_lent : (text a b c d : List ℕ) (p : Numbers) (lines : List Numbers) → rea
 unfolding read_gr
 gr_lent text a b c d p lines e =
     let wide = leb most_arcs (length a) && leb most_arcs (length b) && leb most_arcs (length c) && leb most_arcs (length d) in
-    let f = both_fine (passes (leb (length text) longest_text) TextTooLong) (or_else (passes wide RowTooShort) Fine) (onward _ _ _ _ e).0 in
-    let g = both_fine (passes wide RowTooShort) Fine f.1 in
+    let f = both_fine (passes (leb (length text) longest_text) TextTooLong) (or_else (passes wide RowTooShort) (Ok tt)) (onward _ _ _ _ e).0 in
+    let g = both_fine (passes wide RowTooShort) (Ok tt) f.1 in
     (gr_room a b c d (passed _ _ g.0)).3
 
 gr_open : (text a b c d : List ℕ) (n m : ℕ) → gr_says (read_gr text a b c d) ≡ accepted (n ∷ m ∷ []) → GrOpen m d (open_row (read_gr text a b c d) d)
@@ -137,7 +133,7 @@ shown : {a b : ℤ} → le_z a b ≡ true → a ≤ℤ b
 shown {a} {b} e = le_z_yes (rw e tt)
 
 co_lines : (n : ℕ) → n ≤ 512 → (text : List ℕ) (p : Numbers) (lines : List Numbers) (a b : List ℤ) → read_text (Coordinates n) text ≡ read p lines
-    → CoLimits n (map (axis_of X) lines ++ a) (map (axis_of Y) lines ++ b)
+    → CoLimits n (map (λ ns. ns.x) lines ++ a) (map (λ ns. ns.y) lines ++ b)
 unfolding co_rules
 co_lines n ok text p lines a b e =
     let s = sound (Coordinates n) ok text p lines e in
@@ -145,10 +141,10 @@ co_lines n ok text p lines a b e =
     let at : (k : ℕ) → k < n → k < length lines = λ k h. omega (arith, s.long) in
     let line : (k : ℕ) → k < n → Inside (co_rules n).entries (get_or lines k none) = λ k h. inside (co_rules n).entries (get_or lines k none) (s.entry k (omega arith)).inside in
     record {
-      x_least = λ k h. rw (front (axis_of X) lines a k (pos 0) (at k h)) (shown (line k h).low.x);
-      x_most = λ k h. rw (front (axis_of X) lines a k (pos 0) (at k h)) (shown (line k h).high.x);
-      y_least = λ k h. rw (front (axis_of Y) lines b k (pos 0) (at k h)) (shown (line k h).low.y);
-      y_most = λ k h. rw (front (axis_of Y) lines b k (pos 0) (at k h)) (shown (line k h).high.y);
+      x_least = λ k h. rw (front (λ ns. ns.x) lines a k (pos 0) (at k h)) (shown (line k h).low.x);
+      x_most = λ k h. rw (front (λ ns. ns.x) lines a k (pos 0) (at k h)) (shown (line k h).high.x);
+      y_least = λ k h. rw (front (λ ns. ns.y) lines b k (pos 0) (at k h)) (shown (line k h).low.y);
+      y_most = λ k h. rw (front (λ ns. ns.y) lines b k (pos 0) (at k h)) (shown (line k h).high.y);
     }
 
 pub co_read : (text : List ℕ) (n : ℕ) (a b : List ℤ) (p : Numbers) (lines : List Numbers) → read_co text n a b ≡ read p lines
@@ -158,19 +154,19 @@ co_read text n a b p lines e =
     let wide = leb most_nodes (length a) && leb most_nodes (length b) in
     let given = passes (leb 1 n && leb n most_nodes) (BeyondLimits 0) in
     let d = onward _ _ _ _ e in
-    let f = both_fine (passes (leb (length text) longest_text) TextTooLong) (or_else (passes wide RowTooShort) (or_else given Fine)) d.0 in
-    let g = both_fine (passes wide RowTooShort) (or_else given Fine) f.1 in
-    let h = both_fine given Fine g.1 in
+    let f = both_fine (passes (leb (length text) longest_text) TextTooLong) (or_else (passes wide RowTooShort) (or_else given (Ok tt))) d.0 in
+    let g = both_fine (passes wide RowTooShort) (or_else given (Ok tt)) f.1 in
+    let h = both_fine given (Ok tt) g.1 in
     let i = and_true (leb 1 n) (leb n most_nodes) (passed _ _ h.0) in
     (leb-true _ _ i.0, leb-true _ _ i.1, d.1)
 
 co_limits : (text : List ℕ) (n : ℕ) (a b : List ℤ) → co_says (read_co text n a b) ≡ accepted []
-    → CoLimits n (row (axis_of X) (read_co text n a b) a) (row (axis_of Y) (read_co text n a b) b)
+    → CoLimits n (row (λ ns. ns.x) (read_co text n a b) a) (row (λ ns. ns.y) (read_co text n a b) b)
 unfolding co_says row
 co_limits text n a b e = by_outcome (read_co text n a b) (co_read text n a b) e
   where
     by_outcome : (o : Outcome) → ((p : Numbers) (lines : List Numbers) → o ≡ read p lines → (1 ≤ n) × (n ≤ 512) × (read_text (Coordinates n) text ≡ read p lines)) → co_says o ≡ accepted []
-        → CoLimits n (row (axis_of X) o a) (row (axis_of Y) o b)
+        → CoLimits n (row (λ ns. ns.x) o a) (row (λ ns. ns.y) o b)
     by_outcome (read p lines) from d =
         let f = from p lines refl in
         co_lines n f.1 text p lines (drop (length lines) a) (drop (length lines) b) f.2
@@ -218,9 +214,9 @@ p2p_read text n answers p lines e =
     let wide = passes (leb most_queries (length answers)) RowTooShort in
     let given = passes (leb 1 n && leb n most_nodes) (BeyondLimits 0) in
     let d = onward _ _ _ _ e in
-    let f = both_fine (passes (leb (length text) longest_text) TextTooLong) (or_else wide (or_else given Fine)) d.0 in
-    let g = both_fine wide (or_else given Fine) f.1 in
-    let h = both_fine given Fine g.1 in
+    let f = both_fine (passes (leb (length text) longest_text) TextTooLong) (or_else wide (or_else given (Ok tt))) d.0 in
+    let g = both_fine wide (or_else given (Ok tt)) f.1 in
+    let h = both_fine given (Ok tt) g.1 in
     let i = and_true (leb 1 n) (leb n most_nodes) (passed _ _ h.0) in
     (leb-true _ _ (passed _ _ g.0), leb-true _ _ i.0, leb-true _ _ i.1, d.1)
 
@@ -239,15 +235,15 @@ p2p_limits text n answers a b k e = by_outcome (read_p2p text n answers) (p2p_re
 
 -- ---- the rows that a reader leaves after it accepted
 
-module _ (text a b c d : List ℕ) (n m : ℕ) (a' b' c' d' : List ℕ) (p : GrPromise text a b c d (GrRead n m) a' b' c' d') where
+module _ (text a b c d : List ℕ) (n m : ℕ) (a' b' c' d' : List ℕ) (p : GrPromise text a b c d (Ok (record { n = n; m = m })) a' b' c' d') where
   pub read_gr_limits : GrLimits n m a' b' c'
   read_gr_limits = rw (p.tails_left, p.heads_left, p.weights_left) (gr_limits text a b c d n m (sym p.reply))
 
   pub read_gr_open : GrOpen m d d'
   read_gr_open = rw p.closures_left (gr_open text a b c d n m (sym p.reply))
 
-pub read_co_limits : (text : List ℕ) (n : ℕ) (a b a' b' : List ℤ) → CoPromise text n a b CoRead a' b' → CoLimits n a' b'
+pub read_co_limits : (text : List ℕ) (n : ℕ) (a b a' b' : List ℤ) → CoPromise text n a b (Ok tt) a' b' → CoLimits n a' b'
 read_co_limits text n a b a' b' p = rw (p.x_left, p.y_left) (co_limits text n a b (sym p.reply))
 
-pub read_p2p_limits : (text : List ℕ) (n : ℕ) (answers a b : List ℕ) (k : ℕ) (a' b' : List ℕ) → P2pPromise text n answers a b (P2pRead k) a' b' → P2pLimits n k a' b'
+pub read_p2p_limits : (text : List ℕ) (n : ℕ) (answers a b : List ℕ) (k : ℕ) (a' b' : List ℕ) → P2pPromise text n answers a b (Ok k) a' b' → P2pLimits n k a' b'
 read_p2p_limits text n answers a b k a' b' p = rw (p.sources_left, p.targets_left) (p2p_limits text n answers a b k (sym p.reply))

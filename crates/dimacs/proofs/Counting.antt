@@ -1,7 +1,7 @@
 -- How many places of a row are taken.
-use mathlib.Core.Path.{◌≡◌, refl, sym, ap}
+use mathlib.Core.Path.{◌≡◌, refl, sym}
 use mathlib.Core.List.{List, [], ◌∷◌}
-use mathlib.Core.Bool.{Bool, true, false, cond}
+use mathlib.Core.Bool.{Bool, true, false}
 use Prim.Native.Nat.{ℕ, zero, suc, ◌+◌, ◌-◌, ◌≤◌, ◌<◌}
 use native.Mathlib.Nat.{le_of_suc-le-suc}
 use native.Mathlib.Omega.{arith}
@@ -16,7 +16,7 @@ abbrev pub At : List Bool → ℕ → Type 0
 At l i = get_or l i false ≡ true
 
 pub clash : false ≡ true → ⊥
-clash e = let z : ◌≡◌ {A = ℕ} 0 1 = ap (λ (b : Bool). cond b 1 0) e in omega arith
+clash e = cc
 
 -- one place more
 pub trues_set : (l : List Bool) (i : ℕ) → i < length l → get_or l i false ≡ false → trues (set l i true) ≡ trues l + 1

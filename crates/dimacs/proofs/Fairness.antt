@@ -12,17 +12,16 @@ use Rattle.rules.proofs.AndLaws.{and_true}
 use Rattle.rules.proofs.JudgingLaws.{both_fine, passed}
 use Rattle.rules.specs.Judging.{or_else, passes}
 use Rattle.rules.specs.declared.Refusal.TheVariants.{OutOfOrder, BeyondLimits, CountsDisagree, NodeAgain}
-use Rattle.rules.specs.declared.Judged.TheVariants.{Fine}
 use Rattle.scan.specs.Held.{held, held_z, held_numbers, held_line}
 use Rattle.scan.specs.declared.holding.Numbers.{Numbers}
 use Rattle.scan.specs.declared.line.Line.{Line}
-use Rattle.scan.specs.declared.line.Line.TheVariants.{Comment, Problem, Data, Faulty}
+use Rattle.scan.specs.declared.line.Line.TheVariants.{Comment, Problem, Data}
 use Rattle.dimacs.specs.Rules.{column_of, naturals, none_above, within}
 use Rattle.dimacs.specs.Gr.{gr_rules}
 use Rattle.dimacs.specs.Co.{co_rules}
 use Rattle.dimacs.specs.P2p.{p2p_rules}
 use Rattle.dimacs.specs.Formats.{rules_of}
-use Rattle.dimacs.specs.Judgement.{announced, again, problem_judged, data_judged, judged}
+use Rattle.dimacs.specs.Judgement.{numbers_of, is_seen, announced, again, problem_judged, data_judged, judged}
 use Rattle.dimacs.specs.Fair.{Small, Modest, ModestLimits, Fair, FormatFair}
 use Rattle.dimacs.specs.declared.rows.Column.{Column}
 use Rattle.dimacs.specs.declared.rows.Column.TheVariants.{First, Second, Third}
@@ -32,6 +31,8 @@ use Rattle.dimacs.specs.declared.format.Format.{Format}
 use Rattle.dimacs.specs.declared.format.Format.TheVariants.{Graph, Coordinates, Queries}
 use Rattle.dimacs.specs.declared.judge.Head.{Head}
 use Rattle.dimacs.proofs.Counting.{clash}
+use Rattle.std.specs.Prelude.{Result, Ok, Err}
+use Rattle.scan.specs.declared.fields.Fault.{Fault}
 
 -- ---- every format's rules
 
@@ -195,32 +196,32 @@ module _ (l : Limits) (m : ModestLimits l) where
 pub record ProblemFine (R : Rules) (h : Head) (ns : Numbers) : Type 0 where
   pub inside : within R.problem ns ≡ true
   pub agrees : leb R.fewest (announced R ns) && leb (announced R ns) R.most ≡ true
-  pub unseen : not h.seen ≡ true
+  pub unseen : not (is_seen h) ≡ true
 
-pub problem_fine : (R : Rules) (h : Head) (k : ℕ) (ns : Numbers) → problem_judged R h k ns ≡ Fine → ProblemFine R h ns
+pub problem_fine : (R : Rules) (h : Head) (k : ℕ) (ns : Numbers) → problem_judged R h k ns ≡ Ok tt → ProblemFine R h ns
 unfolding problem_judged
 problem_fine R h k ns e =
     let agreed = leb R.fewest (announced R ns) && leb (announced R ns) R.most in
-    let d = both_fine (passes (not h.seen) (OutOfOrder k)) (or_else (passes (within R.problem ns) (BeyondLimits k)) (or_else (passes agreed (CountsDisagree k)) Fine)) e in
-    let f = both_fine (passes (within R.problem ns) (BeyondLimits k)) (or_else (passes agreed (CountsDisagree k)) Fine) d.1 in
-    let g = both_fine (passes agreed (CountsDisagree k)) Fine f.1 in
+    let d = both_fine (passes (not (is_seen h)) (OutOfOrder k)) (or_else (passes (within R.problem ns) (BeyondLimits k)) (or_else (passes agreed (CountsDisagree k)) (Ok tt))) e in
+    let f = both_fine (passes (within R.problem ns) (BeyondLimits k)) (or_else (passes agreed (CountsDisagree k)) (Ok tt)) d.1 in
+    let g = both_fine (passes agreed (CountsDisagree k)) (Ok tt) f.1 in
     record { inside = passed _ _ f.0; agrees = passed _ _ g.0; unseen = passed _ _ d.0 }
 
 pub record DataFine (R : Rules) (h : Head) (taken : List Bool) (ns : Numbers) : Type 0 where
-  pub seen : h.seen ≡ true
+  pub seen : (is_seen h) ≡ true
   pub inside : within R.entries ns ≡ true
   pub first_time : again R taken ns.first ≡ false
-  pub room : h.count < announced R h.problem
+  pub room : h.count < announced R (numbers_of h)
 
-pub data_fine : (R : Rules) (h : Head) (taken : List Bool) (k : ℕ) (ns : Numbers) → data_judged R h taken k ns ≡ Fine → DataFine R h taken ns
+pub data_fine : (R : Rules) (h : Head) (taken : List Bool) (k : ℕ) (ns : Numbers) → data_judged R h taken k ns ≡ Ok tt → DataFine R h taken ns
 unfolding data_judged
 data_fine R h taken k ns e =
-    let last = or_else (passes (ltb h.count (announced R h.problem)) (CountsDisagree k)) Fine in
+    let last = or_else (passes (ltb h.count (announced R (numbers_of h))) (CountsDisagree k)) (Ok tt) in
     let third = or_else (passes (not (again R taken ns.first)) (NodeAgain k)) last in
-    let d = both_fine (passes h.seen (OutOfOrder k)) (or_else (passes (within R.entries ns) (BeyondLimits k)) third) e in
+    let d = both_fine (passes (is_seen h) (OutOfOrder k)) (or_else (passes (within R.entries ns) (BeyondLimits k)) third) e in
     let f = both_fine (passes (within R.entries ns) (BeyondLimits k)) third d.1 in
     let g = both_fine (passes (not (again R taken ns.first)) (NodeAgain k)) last f.1 in
-    let i = both_fine (passes (ltb h.count (announced R h.problem)) (CountsDisagree k)) Fine g.1 in
+    let i = both_fine (passes (ltb h.count (announced R (numbers_of h))) (CountsDisagree k)) (Ok tt) g.1 in
     record {
       seen = passed _ _ d.0;
       inside = passed _ _ f.0;
@@ -255,16 +256,16 @@ module _ (R : Rules) (fair : Fair R) (h : Head) (taken : List Bool) (k : ℕ) wh
       by_test true e = ap (data_judged R h taken k) (within_same R.entries fair.entries ns e)
       by_test false e = data_beyond R h taken k (held_numbers ns) ns (within_held R.entries fair.entries ns ∙ e) e
 
-  pub judged-held : (l : Line) → judged R h taken k (held_line l) ≡ judged R h taken k l
+  pub judged-held : (l : Result Line Fault) → judged R h taken k (held_line l) ≡ judged R h taken k l
   unfolding judged held_line
-  judged-held Comment = refl
-  judged-held (Problem ns) = problem_held ns
-  judged-held (Data ns) = data_held ns
-  judged-held (Faulty f) = refl
+  judged-held (Ok Comment) = refl
+  judged-held (Ok (Problem ns)) = problem_held ns
+  judged-held (Ok (Data ns)) = data_held ns
+  judged-held (Err f) = refl
 
-  pub fine_held : (l : Line) → judged R h taken k l ≡ Fine → held_line l ≡ l
+  pub fine_held : (l : Result Line Fault) → judged R h taken k l ≡ Ok tt → held_line l ≡ l
   unfolding judged held_line
-  fine_held Comment e = refl
-  fine_held (Problem ns) e = ap Problem (within_same R.problem fair.problem ns (problem_fine R h k ns e).inside)
-  fine_held (Data ns) e = ap Data (within_same R.entries fair.entries ns (data_fine R h taken k ns e).inside)
-  fine_held (Faulty f) e = refl
+  fine_held (Ok Comment) e = refl
+  fine_held (Ok (Problem ns)) e = ap (λ (n : Numbers). Ok (Problem n)) (within_same R.problem fair.problem ns (problem_fine R h k ns e).inside)
+  fine_held (Ok (Data ns)) e = ap (λ (n : Numbers). Ok (Data n)) (within_same R.entries fair.entries ns (data_fine R h taken k ns e).inside)
+  fine_held (Err f) e = refl

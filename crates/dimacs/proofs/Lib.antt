@@ -1,6 +1,7 @@
 pub mod Accepted
 pub mod Counting
 pub mod Fairness
+pub mod Judged
 pub mod Reading
 pub mod Replies
 pub mod RowLaws

@@ -1,26 +1,24 @@
 -- Laws of reading a text line by line, for any format.
 use mathlib.Core.Path.{◌≡◌, refl, sym, ap, ◌∙◌}
-use mathlib.Core.List.{List}
+use mathlib.Core.List.{List, [], ◌∷◌}
 use mathlib.Core.Bool.{Bool, true, false, cond}
-use Prim.Native.Nat.{ℕ, ◌+◌, ◌-◌, ◌≤◌, ◌<◌}
-use native.Mathlib.Nat.{add_assoc, le_trans}
+use Prim.Native.Nat.{ℕ, suc, ◌+◌, ◌-◌, ◌≤◌, ◌<◌}
+use native.Mathlib.Nat.{le_trans}
 use native.Mathlib.Omega.{arith}
-use lib.ListN.{length, take, drop, set, replicate, length-drop, drop_of_length-le}
-use lib.Seq.{drop-drop}
+use lib.ListN.{length, get_or, take, set, replicate}
 use Rattle.rules.specs.declared.Refusal.{Refusal}
-use Rattle.rules.specs.declared.Judged.{Judged}
-use Rattle.rules.specs.declared.Judged.TheVariants.{Fine, Refused}
-use Rattle.scan.specs.Pieces.{pieces, first_at, lines_of}
+use Rattle.rules.specs.Judging.{Judged}
+use Rattle.scan.specs.Pieces.{lines_of}
 use Rattle.scan.specs.Fields.{none}
 use Rattle.scan.specs.Held.{held_line}
 use Rattle.scan.specs.declared.holding.Numbers.{Numbers}
 use Rattle.scan.specs.declared.line.Line.{Line}
-use Rattle.scan.specs.declared.line.Line.TheVariants.{Problem, Data}
-use Rattle.scan.proofs.PieceLaws.{pieces_step}
+use Rattle.scan.specs.declared.line.Line.TheVariants.{Comment, Problem, Data}
+use Rattle.scan.proofs.PieceLaws.{pieces_few, piece_short}
 use Rattle.dimacs.specs.Rules.{column_of}
 use Rattle.dimacs.specs.Formats.{format_line, rules_of}
-use Rattle.dimacs.specs.Judgement.{announced, judged, ended}
-use Rattle.dimacs.specs.Texts.{Outcome, read, refused, State, place, next, on_judged, read_lines, read_text}
+use Rattle.dimacs.specs.Judgement.{numbers_of, announced, problem_judged, data_judged, fault_at, judged, ended}
+use Rattle.dimacs.specs.Texts.{read, refused, State, place, next, on_judged, read_lines, read_text}
 use Rattle.dimacs.specs.Fair.{Fair, FormatFair}
 use Rattle.dimacs.specs.declared.rows.Column.{Column}
 use Rattle.dimacs.specs.declared.format.Rules.{Rules}
@@ -28,113 +26,150 @@ use Rattle.dimacs.specs.declared.format.Format.{Format}
 use Rattle.dimacs.specs.declared.judge.Head.{Head}
 use Rattle.dimacs.proofs.Sound.{none-counted}
 use Rattle.dimacs.proofs.Fairness.{fair_of, column_below, inside, once_in, judged-held, fine_held, problem_fine, DataFine, data_fine}
+use Rattle.std.specs.Prelude.{Result, Ok, Err, Some, None}
+use Rattle.scan.specs.declared.fields.Fault.{Fault}
+use Rattle.dimacs.proofs.WhichField.{short_line}
 
--- what holds at a line's start: `at` bytes are read, the line is line k, and the state is s
-pub record Going (F : Format) (text : List ℕ) (s : State) (at k : ℕ) : Type 0 where
-  pub within : at ≤ length text + 1
-  pub lined : k ≤ at + 1
-  pub nodes : s.head.problem.first ≤ 512
-  pub counts : (c : Column) → column_of c s.head.problem ≤ 2048
-  pub same : read_text F text ≡ read_lines F (lines_of (drop at text)) k s
+-- what holds at a line's start: the lines ls are left, of which the first is line k, and the state is s
+pub record Going (F : Format) (text : List ℕ) (s : State) (ls : List (List ℕ)) (k : ℕ) : Type 0 where
+  pub lined : k + length ls ≤ 65537
+  pub short : (i : ℕ) → length (get_or ls i []) ≤ 65536
+  pub nodes : (numbers_of s.head).first ≤ 512
+  pub counts : (c : Column) → column_of c (numbers_of s.head) ≤ 2048
+  pub same : read_text F text ≡ read_lines F ls k s
 
 abbrev pub state : Head → List Bool → List Numbers → State
 state h taken lines = record { head = h; taken = taken; lines = lines }
 
-pub going_start : (F : Format) (text : List ℕ) (a b : Numbers) → a ≡ none → b ≡ none
-    → Going F text (state (record { seen = false; problem = b; count = 0 }) (replicate 2048 false) (replicate 2048 a)) 0 1
+pub going_start : (F : Format) (text : List ℕ) → length text ≤ 65536 → (a : Numbers) → a ≡ none
+    → Going F text (state (record { problem = None; count = 0 }) (replicate 2048 false) (replicate 2048 a)) (lines_of text) 1
 unfolding read_text
-going_start F text a b p q = rw (p, q) (record { within = omega arith; lined = omega arith; nodes = omega arith; counts = none-counted; same = refl })
+going_start F text few a p =
+    rw p (record {
+      lined = omega (arith, pieces_few 10 text);
+      short = λ i. omega (arith, piece_short 10 text i);
+      nodes = omega arith;
+      counts = none-counted;
+      same = refl;
+    })
 
 -- ---- one line
 
--- what is known where the line l, which ends at e of what is left of the text, is judged by the rules R as j
-pub record Turn (F : Format) (text : List ℕ) (h : Head) (taken : List Bool) (lines : List Numbers) (at k e : ℕ) (l : Line) (R : Rules) (j : Judged) : Type 0 where
+-- what is known where the line `line`, before the lines `more`, is held as l
+pub record Turn (F : Format) (text : List ℕ) (h : Head) (taken : List Bool) (lines : List Numbers) (ls more : List (List ℕ)) (k : ℕ) (line : List ℕ) (l : Result Line Fault) : Type 0 where
   pub ok : FormatFair F
-  pub going : Going F text (state h taken lines) at k
-  pub more : at < length text
-  pub left : List ℕ
-  pub text_left : left ≡ drop at text
-  pub line_end : e ≡ first_at 10 left
-  pub in_left : e ≤ length left
-  pub line : List ℕ
-  pub line-cut : line ≡ take e left
+  pub going : Going F text (state h taken lines) ls k
+  pub first : ls ≡ line ∷ more
   pub held_line_lem : l ≡ held_line (format_line F line)
-  pub rules : R ≡ rules_of F h.problem
-  pub judgement : j ≡ judged R h taken k l
 
-module _ (F : Format) (text : List ℕ) (h : Head) (taken : List Bool) (lines : List Numbers) (at k e : ℕ) (l : Line) (R : Rules) (j : Judged) (g : Turn F text h taken lines at k e l R j) where
-  fair : Fair R
-  fair = rw g.rules (fair_of F g.ok h.problem g.going.nodes)
+module _ (F : Format) (text : List ℕ) (h : Head) (taken : List Bool) (lines : List Numbers) (ls more : List (List ℕ)) (k : ℕ) (line : List ℕ) (l : Result Line Fault)
+    (g : Turn F text h taken lines ls more k line l) where
+  abbrev R : Rules
+  R = rules_of F (numbers_of h)
 
-  same_judgement : j ≡ judged R h taken k (format_line F g.line)
-  same_judgement = g.judgement ∙ (ap (judged R h taken k) g.held_line_lem ∙ judged-held R fair h taken k (format_line F g.line))
+  pub fair : Fair R
+  fair = fair_of F g.ok (numbers_of h) g.going.nodes
 
-  turn : read_text F text ≡ on_judged j (read_lines F (lines_of (drop (at + e + 1) text)) (k + 1) (next R (state h taken lines) (format_line F g.line)))
+  same_judgement : judged R h taken k l ≡ judged R h taken k (format_line F line)
+  same_judgement = ap (judged R h taken k) g.held_line_lem ∙ judged-held R fair h taken k (format_line F line)
+
+  turn : read_text F text ≡ on_judged (judged R h taken k l) (read_lines F more (k + 1) (next R (state h taken lines) (format_line F line)))
   unfolding read_lines
-  turn =
-      rw (same_judgement, g.rules, g.line-cut, g.text_left)
-      (g.going.same ∙ rw (pieces_step 10 (drop at text) e (g.line_end ∙ ap (first_at 10) g.text_left) (simp length-drop (omega (arith, g.more))), drop-drop (e + 1) at text, ← add_assoc at e 1))
+  turn = rw same_judgement (g.going.same ∙ rw g.first)
 
-  pub line_out : (x : Refusal) → j ≡ Refused x → read_text F text ≡ refused x
+  -- a fault's column fits into 32 bits
+  pub line_short : (f : Fault) → l ≡ Err f → f.column ≤ 65537
+  line_short f e = short_line F line f (rw g.first at (g.going.short 0)) (sym g.held_line_lem ∙ e)
+
+  line_out : (x : Refusal) → judged R h taken k l ≡ Err x → read_text F text ≡ refused x
   unfolding on_judged
   line_out x d = rw d at turn
 
-  module _ (fine : j ≡ Fine) where
-    onward : read_text F text ≡ read_lines F (lines_of (drop (at + e + 1) text)) (k + 1) (next R (state h taken lines) l)
-    unfolding on_judged
-    onward =
-        let true-line = g.held_line_lem ∙ fine_held R fair h taken k (format_line F g.line) (sym same_judgement ∙ fine) in
-        rw true-line (rw fine at turn)
+  lined_on : k + 1 + length more ≤ 65537
+  lined_on = omega (arith, rw g.first at g.going.lined)
 
-    step_in : at + e + 1 ≤ length text + 1
-    step_in = omega (arith, rw (g.text_left, length-drop) at g.in_left, g.more)
+  short_on : (i : ℕ) → length (get_or more i []) ≤ 65536
+  short_on i = rw g.first at (g.going.short (suc i))
 
-    pub line_kept : next R (state h taken lines) l ≡ state h taken lines → Going F text (state h taken lines) (at + e + 1) (k + 1)
-    line_kept d = record { within = step_in; lined = omega (arith, g.going.lined); nodes = g.going.nodes; counts = g.going.counts; same = rw d at onward }
+  onward : judged R h taken k l ≡ Ok tt → read_text F text ≡ read_lines F more (k + 1) (next R (state h taken lines) l)
+  unfolding on_judged
+  onward fine =
+      let true-line = g.held_line_lem ∙ fine_held R fair h taken k (format_line F line) (sym same_judgement ∙ fine) in
+      rw true-line (rw fine at turn)
 
-    pub line_problem : (ns : Numbers) → l ≡ Problem ns → Going F text (state (record { seen = true; problem = ns; count = h.count }) taken lines) (at + e + 1) (k + 1)
-    unfolding next judged
-    line_problem ns d =
-        let f = problem_fine R h k ns (rw d at (sym g.judgement ∙ fine)) in
+  -- a line with a fault, whose column fits into 32 bits
+  pub fault_short : (f : Fault) → l ≡ Err f → f.column ≤ 65537
+  fault_short f e = short_line F line f (rw g.first at (g.going.short 0)) (sym g.held_line_lem ∙ e)
+
+  pub fault_out : (f : Fault) → l ≡ Err f → read_text F text ≡ refused (fault_at k f.column f.kind)
+  unfolding judged
+  fault_out f e = line_out _ (rw e)
+
+  pub comment_on : l ≡ Ok Comment → Going F text (state h taken lines) more (k + 1)
+  unfolding judged next
+  comment_on e =
+      let on : read_text F text ≡ read_lines F more (k + 1) (next R (state h taken lines) l) = onward (rw e) in
+      record { lined = lined_on; short = short_on; nodes = g.going.nodes; counts = g.going.counts; same = rw e at on }
+
+  -- a problem line, which is judged as j
+  module _ (ns : Numbers) (j : Judged) (p : j ≡ problem_judged R h k ns) (e : l ≡ Ok (Problem ns)) where
+    problem_is : judged R h taken k l ≡ j
+    unfolding judged
+    problem_is = rw (e, p)
+
+    pub problem_out : (x : Refusal) → j ≡ Err x → read_text F text ≡ refused x
+    problem_out x d = line_out x (problem_is ∙ d)
+
+    pub problem_on : j ≡ Ok tt → Going F text (state (record { problem = Some ns; count = h.count }) taken lines) more (k + 1)
+    unfolding next
+    problem_on d =
+        let f = problem_fine R h k ns (sym p ∙ d) in
         let i = inside R.problem ns f.inside in
+        let on = onward (problem_is ∙ d) in
         record {
-          within = step_in;
-          lined = omega (arith, g.going.lined);
+          lined = lined_on;
+          short = short_on;
           nodes = omega (arith, i.high.first, fair.nodes);
           counts = λ c. le_trans (column_below _ _ i.high c) (fair.counts c);
-          same = rw d at onward;
+          same = rw e at on;
         }
 
-    on_data_line : (ns : Numbers) → l ≡ Data ns → DataFine R h taken ns
+  -- a data line, which is judged as j
+  module _ (ns : Numbers) (j : Judged) (p : j ≡ data_judged R h taken k ns) (e : l ≡ Ok (Data ns)) where
+    data_is : judged R h taken k l ≡ j
     unfolding judged
-    on_data_line ns d = data_fine R h taken k ns (rw d at (sym g.judgement ∙ fine))
+    data_is = rw (e, p)
 
-    pub data_low : (ns : Numbers) → l ≡ Data ns → R.once ≡ true → 1 ≤ ns.first
-    data_low ns d o = (once_in R ns fair (on_data_line ns d).inside o).0
+    pub data_out : (x : Refusal) → j ≡ Err x → read_text F text ≡ refused x
+    data_out x d = line_out x (data_is ∙ d)
 
-    pub data_room : (ns : Numbers) → l ≡ Data ns → h.count < 2048
-    data_room ns d = omega (arith, (on_data_line ns d).room, g.going.counts R.count)
+    module _ (d : j ≡ Ok tt) where
+      is_fine : DataFine R h taken ns
+      is_fine = data_fine R h taken k ns (sym p ∙ d)
 
-    pub data_place : (ns : Numbers) (i : ℕ) → l ≡ Data ns → i ≡ place R h ns → i < 2048
-    data_place ns i d w = rw w (by_once R.once refl)
-      where
-        by_once : (z : Bool) → R.once ≡ z → cond z (ns.first - 1) h.count < 2048
-        by_once true o = omega (arith, once_in R ns fair (on_data_line ns d).inside o)
-        by_once false o = data_room ns d
+      pub data_low : R.once ≡ true → 1 ≤ ns.first
+      data_low o = (once_in R ns fair is_fine.inside o).0
 
-    pub line_data : (ns : Numbers) (i : ℕ) → l ≡ Data ns → i ≡ place R h ns
-        → Going F text (state (record { seen = h.seen; problem = h.problem; count = h.count + 1 }) (set taken i true) (set lines i ns)) (at + e + 1) (k + 1)
-    unfolding next
-    line_data ns i d w = record { within = step_in; lined = omega (arith, g.going.lined); nodes = g.going.nodes; counts = g.going.counts; same = rw w (rw d at onward) }
+      pub data_room : h.count < 2048
+      data_room = omega (arith, is_fine.room, g.going.counts R.count)
+
+      module _ (i : ℕ) (w : i ≡ place R h ns) where
+        pub data_place : i < 2048
+        data_place = rw w (by_once R.once refl)
+          where
+            by_once : (z : Bool) → R.once ≡ z → cond z (ns.first - 1) h.count < 2048
+            by_once true o = omega (arith, once_in R ns fair is_fine.inside o)
+            by_once false o = data_room
+
+        pub data_on : Going F text (state (record { problem = h.problem; count = h.count + 1 }) (set taken i true) (set lines i ns)) more (k + 1)
+        unfolding next
+        data_on =
+            let on = onward (data_is ∙ d) in
+            record { lined = lined_on; short = short_on; nodes = g.going.nodes; counts = g.going.counts; same = rw w (rw e at on) }
 
 -- ---- the end
 
-pub text_end : (F : Format) (text : List ℕ) (s : State) (at k : ℕ) (j : Judged) → Going F text s at k → length text ≤ at → j ≡ ended (rules_of F s.head.problem) s.head k
-    → on_judged j (read s.head.problem (take (announced (rules_of F s.head.problem) s.head.problem) s.lines)) ≡ read_text F text
-unfolding read_lines pieces
-text_end F text s at k j g done e = sym (g.same ∙ rw (drop_of_length-le text done, ← e))
-
--- a refusal decides, whatever was read
-pub judged_out : (j : Judged) (x : Refusal) (o : Outcome) → j ≡ Refused x → on_judged j o ≡ refused x
-unfolding on_judged
-judged_out j x o e = rw e
+pub text_end : (F : Format) (text : List ℕ) (s : State) (k : ℕ) → Going F text s [] k
+    → read_text F text ≡ on_judged (ended (rules_of F (numbers_of s.head)) s.head k) (read (numbers_of s.head) (take (announced (rules_of F (numbers_of s.head)) (numbers_of s.head)) s.lines))
+unfolding read_lines
+text_end F text s k g = g.same

@@ -1,38 +1,26 @@
 -- Laws of the readers' replies and of the rows that they leave.
-use mathlib.Core.Path.{◌≡◌, sym, ◌∙◌}
+use mathlib.Core.Path.{◌≡◌}
 use mathlib.Core.List.{List, ◌++◌, map}
-use mathlib.Core.Bool.{Bool, true, false, ◌&&◌}
-use Prim.Native.Nat.{ℕ, ◌≤◌, ◌<◌}
+use mathlib.Core.Bool.{Bool, true, ◌&&◌}
+use Prim.Native.Nat.{ℕ, ◌≤◌}
 use lib.Dec.{leb}
 use lib.IntN.{ℤ}
 use lib.ListN.{length, drop, replicate}
-use borrow.Author.Tests.{leb-true, le-leb, lt-leb}
+use borrow.Author.Tests.{leb-true, le-leb}
 use Rattle.rules.proofs.AndLaws.{and_true}
 use Rattle.rules.specs.declared.Refusal.{Refusal}
 use Rattle.rules.specs.declared.Refusal.TheVariants.{TextTooLong, RowTooShort, BeyondLimits}
-use Rattle.rules.specs.declared.Judged.{Judged}
-use Rattle.rules.specs.declared.Judged.TheVariants.{Fine, Refused}
+use Rattle.rules.specs.Judging.{Judged}
 use Rattle.scan.specs.declared.holding.Numbers.{Numbers}
-use Rattle.dimacs.specs.Texts.{Outcome, read, refused, on_judged, read_text}
-use Rattle.dimacs.specs.Rules.{column_of, axis_of}
+use Rattle.rules.specs.Judging.{passes}
+use Rattle.dimacs.specs.Texts.{read, refused, on_judged, read_text}
+use Rattle.dimacs.specs.Rules.{column_of}
 use Rattle.dimacs.specs.Rows.{row, open_row}
 use Rattle.dimacs.specs.Reading.{read_gr, gr_says, read_co, co_says, read_p2p, p2p_says}
 use Rattle.dimacs.specs.Promise.{GrPromise, CoPromise, P2pPromise}
 use Rattle.dimacs.specs.declared.format.Format.TheVariants.{Graph, Coordinates, Queries}
 use Rattle.dimacs.specs.declared.rows.Column.TheVariants.{First, Second, Third}
-use Rattle.dimacs.specs.declared.rows.Axis.TheVariants.{X, Y}
-use Rattle.dimacs.specs.declared.GrReply.TheVariants.{Read as GrRead, Refused as GrRefused}
-use Rattle.dimacs.specs.declared.CoReply.TheVariants.{Read as CoRead, Refused as CoRefused}
-use Rattle.dimacs.specs.declared.P2pReply.TheVariants.{Read as P2pRead, Refused as P2pRefused}
-
--- the outcome of a text that was judged
-pub fine_outcome : (o p : Outcome) (j : Judged) → on_judged j p ≡ o → j ≡ Fine → o ≡ p
-unfolding on_judged
-fine_outcome o p j e f = sym e ∙ rw f
-
-pub refused_outcome : (o p : Outcome) (j : Judged) (x : Refusal) → on_judged j p ≡ o → j ≡ Refused x → o ≡ refused x
-unfolding on_judged
-refused_outcome o p j x e f = sym e ∙ rw f
+use Rattle.std.specs.Prelude.{Ok, Err}
 
 -- ---- .gr
 
@@ -40,29 +28,35 @@ module _ (text tails heads weights closures : List ℕ) where
   abbrev long : Bool
   long = leb 2048 (length tails) && leb 2048 (length heads) && leb 2048 (length weights) && leb 2048 (length closures)
 
-  pub gr_too_long : 65536 < length text → read_gr text tails heads weights closures ≡ refused TextTooLong
-  unfolding read_gr on_judged
-  gr_too_long h = rw (lt-leb _ _ h)
+  -- the judgements a and b before the first line
+  module _ (a : Judged) (p : a ≡ passes (leb (length text) 65536) TextTooLong) where
+    pub gr_too_long : (x : Refusal) → a ≡ Err x → read_gr text tails heads weights closures ≡ refused x
+    unfolding read_gr on_judged
+    gr_too_long x e = rw (← p, e)
 
-  pub gr_too_short : length text ≤ 65536 → long ≡ false → read_gr text tails heads weights closures ≡ refused RowTooShort
-  unfolding read_gr on_judged
-  gr_too_short h i = rw (le-leb _ _ h, i)
+    module _ (fine : a ≡ Ok tt) (b : Judged) (q : b ≡ passes long RowTooShort) where
+      pub gr_too_short : (x : Refusal) → b ≡ Err x → read_gr text tails heads weights closures ≡ refused x
+      unfolding read_gr on_judged
+      gr_too_short x e = rw (← p, fine, ← q, e)
+
+      pub gr_judged : b ≡ Ok tt → read_gr text tails heads weights closures ≡ read_text Graph text
+      unfolding read_gr on_judged
+      gr_judged e = rw (← p, fine, ← q, e)
 
   pub gr_text_lem : length text ≤ 65536 → long ≡ true → read_gr text tails heads weights closures ≡ read_text Graph text
   unfolding read_gr on_judged
   gr_text_lem h i = rw (le-leb _ _ h, i)
 
-  pub gr_out : (r : Refusal) → read_gr text tails heads weights closures ≡ refused r → GrPromise text tails heads weights closures (GrRefused r) tails heads weights closures
+  pub gr_out : (r : Refusal) → read_gr text tails heads weights closures ≡ refused r → GrPromise text tails heads weights closures (Err r) tails heads weights closures
   unfolding gr_says row open_row
   gr_out r e = record { reply = rw e; tails_left = rw e; heads_left = rw e; weights_left = rw e; closures_left = rw e }
 
   pub gr_in : (p : Numbers) (lines : List Numbers) (a b c d : List ℕ) → read_gr text tails heads weights closures ≡ read p lines → length lines ≡ p.second
-      → a ≡ map (column_of First) lines ++ drop p.second tails → b ≡ map (column_of Second) lines ++ drop p.second heads
-      → c ≡ map (column_of Third) lines ++ drop p.second weights → d ≡ replicate p.second 0 ++ drop p.second closures
-      → GrPromise text tails heads weights closures (GrRead p.first p.second) a b c d
+      → a ≡ map (column_of First) lines ++ drop (length lines) tails → b ≡ map (column_of Second) lines ++ drop (length lines) heads
+      → c ≡ map (column_of Third) lines ++ drop (length lines) weights → d ≡ replicate p.second 0 ++ drop p.second closures
+      → GrPromise text tails heads weights closures (Ok (record { n = p.first; m = p.second })) a b c d
   unfolding gr_says row open_row
-  gr_in p lines a b c d e long f g h i =
-      record { reply = rw e; tails_left = rw (e, long) f; heads_left = rw (e, long) g; weights_left = rw (e, long) h; closures_left = rw (e, long) i }
+  gr_in p lines a b c d e long f g h i = record { reply = rw e; tails_left = rw e f; heads_left = rw e g; weights_left = rw e h; closures_left = rw (e, long) i }
 
 -- ---- .co
 
@@ -70,60 +64,72 @@ module _ (text : List ℕ) (n : ℕ) (x y : List ℤ) where
   abbrev wide : Bool
   wide = leb 512 (length x) && leb 512 (length y)
 
-  pub co_too_long : 65536 < length text → read_co text n x y ≡ refused TextTooLong
-  unfolding read_co on_judged
-  co_too_long h = rw (lt-leb _ _ h)
+  -- the judgements a, b and c before the first line
+  module _ (a : Judged) (p : a ≡ passes (leb (length text) 65536) TextTooLong) where
+    pub co_too_long : (z : Refusal) → a ≡ Err z → read_co text n x y ≡ refused z
+    unfolding read_co on_judged
+    co_too_long z e = rw (← p, e)
 
-  pub co_too_short : length text ≤ 65536 → wide ≡ false → read_co text n x y ≡ refused RowTooShort
-  unfolding read_co on_judged
-  co_too_short h i = rw (le-leb _ _ h, i)
+    module _ (fine : a ≡ Ok tt) (b : Judged) (q : b ≡ passes wide RowTooShort) where
+      pub co_too_short : (z : Refusal) → b ≡ Err z → read_co text n x y ≡ refused z
+      unfolding read_co on_judged
+      co_too_short z e = rw (← p, fine, ← q, e)
 
-  pub co_beyond : length text ≤ 65536 → wide ≡ true → leb 1 n && leb n 512 ≡ false → read_co text n x y ≡ refused (BeyondLimits 0)
-  unfolding read_co on_judged
-  co_beyond h i j = rw (le-leb _ _ h, i, j)
+      module _ (also : b ≡ Ok tt) (c : Judged) (r : c ≡ passes (leb 1 n && leb n 512) (BeyondLimits 0)) where
+        pub co_beyond : (z : Refusal) → c ≡ Err z → read_co text n x y ≡ refused z
+        unfolding read_co on_judged
+        co_beyond z e = rw (← p, fine, ← q, also, ← r, e)
+
+        pub co_judged : c ≡ Ok tt → read_co text n x y ≡ read_text (Coordinates n) text
+        unfolding read_co on_judged
+        co_judged e = rw (← p, fine, ← q, also, ← r, e)
 
   pub co_text_lem : length text ≤ 65536 → wide ≡ true → leb 1 n && leb n 512 ≡ true → read_co text n x y ≡ read_text (Coordinates n) text
   unfolding read_co on_judged
   co_text_lem h i j = rw (le-leb _ _ h, i, j)
 
-  pub co_out : (r : Refusal) → read_co text n x y ≡ refused r → CoPromise text n x y (CoRefused r) x y
+  pub co_out : (r : Refusal) → read_co text n x y ≡ refused r → CoPromise text n x y (Err r) x y
   unfolding co_says row
   co_out r e = record { reply = rw e; x_left = rw e; y_left = rw e }
 
-  pub co_in : (p : Numbers) (lines : List Numbers) (a b : List ℤ) → read_co text n x y ≡ read p lines → length lines ≡ p.first
-      → a ≡ map (axis_of X) lines ++ drop p.first x → b ≡ map (axis_of Y) lines ++ drop p.first y → CoPromise text n x y CoRead a b
+  pub co_in : (p : Numbers) (lines : List Numbers) (a b : List ℤ) → read_co text n x y ≡ read p lines
+      → a ≡ map (λ ns. ns.x) lines ++ drop (length lines) x → b ≡ map (λ ns. ns.y) lines ++ drop (length lines) y → CoPromise text n x y (Ok tt) a b
   unfolding co_says row
-  co_in p lines a b e long f g = record { reply = rw e; x_left = rw (e, long) f; y_left = rw (e, long) g }
+  co_in p lines a b e f g = record { reply = rw e; x_left = rw e f; y_left = rw e g }
 
 -- ---- .p2p
 
 module _ (text : List ℕ) (n : ℕ) (answers : List ℕ) where
-  pub p2p_too_long : 65536 < length text → read_p2p text n answers ≡ refused TextTooLong
-  unfolding read_p2p on_judged
-  p2p_too_long h = rw (lt-leb _ _ h)
+  -- the judgements a, b and c before the first line
+  module _ (a : Judged) (p : a ≡ passes (leb (length text) 65536) TextTooLong) where
+    pub p2p_too_long : (z : Refusal) → a ≡ Err z → read_p2p text n answers ≡ refused z
+    unfolding read_p2p on_judged
+    p2p_too_long z e = rw (← p, e)
 
-  pub p2p_too_short : length text ≤ 65536 → length answers < 256 → read_p2p text n answers ≡ refused RowTooShort
-  unfolding read_p2p on_judged
-  p2p_too_short h i = rw (le-leb _ _ h, lt-leb _ _ i)
+    module _ (fine : a ≡ Ok tt) (b : Judged) (q : b ≡ passes (leb 256 (length answers)) RowTooShort) where
+      pub p2p_too_short : (z : Refusal) → b ≡ Err z → read_p2p text n answers ≡ refused z
+      unfolding read_p2p on_judged
+      p2p_too_short z e = rw (← p, fine, ← q, e)
 
-  pub p2p_beyond : length text ≤ 65536 → 256 ≤ length answers → leb 1 n && leb n 512 ≡ false → read_p2p text n answers ≡ refused (BeyondLimits 0)
-  unfolding read_p2p on_judged
-  p2p_beyond h i j = rw (le-leb _ _ h, le-leb _ _ i, j)
+      module _ (also : b ≡ Ok tt) (c : Judged) (r : c ≡ passes (leb 1 n && leb n 512) (BeyondLimits 0)) where
+        pub p2p_beyond : (z : Refusal) → c ≡ Err z → read_p2p text n answers ≡ refused z
+        unfolding read_p2p on_judged
+        p2p_beyond z e = rw (← p, fine, ← q, also, ← r, e)
 
-  pub p2p_text : length text ≤ 65536 → 256 ≤ length answers → leb 1 n && leb n 512 ≡ true → read_p2p text n answers ≡ read_text (Queries n) text
-  unfolding read_p2p on_judged
-  p2p_text h i j = rw (le-leb _ _ h, le-leb _ _ i, j)
+        pub p2p_judged : c ≡ Ok tt → read_p2p text n answers ≡ read_text (Queries n) text
+        unfolding read_p2p on_judged
+        p2p_judged e = rw (← p, fine, ← q, also, ← r, e)
 
   module _ (sources targets : List ℕ) where
-    pub p2p_out : (r : Refusal) → read_p2p text n answers ≡ refused r → P2pPromise text n answers sources targets (P2pRefused r) sources targets
+    pub p2p_out : (r : Refusal) → read_p2p text n answers ≡ refused r → P2pPromise text n answers sources targets (Err r) sources targets
     unfolding p2p_says row
     p2p_out r e = record { reply = rw e; sources_left = rw e; targets_left = rw e }
 
-    pub p2p_in : (p : Numbers) (lines : List Numbers) (a b : List ℕ) → read_p2p text n answers ≡ read p lines → length lines ≡ p.first
-        → a ≡ map (column_of First) lines ++ drop p.first sources → b ≡ map (column_of Second) lines ++ drop p.first targets
-        → P2pPromise text n answers sources targets (P2pRead p.first) a b
+    pub p2p_in : (p : Numbers) (lines : List Numbers) (a b : List ℕ) → read_p2p text n answers ≡ read p lines
+        → a ≡ map (column_of First) lines ++ drop (length lines) sources → b ≡ map (column_of Second) lines ++ drop (length lines) targets
+        → P2pPromise text n answers sources targets (Ok p.first) a b
     unfolding p2p_says row
-    p2p_in p lines a b e long f g = record { reply = rw e; sources_left = rw (e, long) f; targets_left = rw (e, long) g }
+    p2p_in p lines a b e f g = record { reply = rw e; sources_left = rw e f; targets_left = rw e g }
 
 -- ---- there is room
 

@@ -12,19 +12,18 @@ use lib.Seq.{get_or-set_same, get_or-set_other, get_or-take, length-take-le}
 use borrow.Author.Tests.{leb-true, eqb-true, not-true}
 use Rattle.rules.proofs.AndLaws.{and_true}
 use Rattle.rules.proofs.JudgingLaws.{passed}
-use Rattle.rules.specs.declared.Judged.{Judged}
-use Rattle.rules.specs.declared.Judged.TheVariants.{Fine, Refused}
+use Rattle.rules.specs.Judging.{Judged}
 use Rattle.scan.specs.Fields.{none}
 use Rattle.scan.specs.Pieces.{lines_of}
 use Rattle.scan.specs.declared.holding.Numbers.{Numbers}
 use Rattle.scan.specs.declared.line.Line.{Line}
-use Rattle.scan.specs.declared.line.Line.TheVariants.{Comment, Problem, Data, Faulty}
+use Rattle.scan.specs.declared.line.Line.TheVariants.{Comment, Problem, Data}
 use Rattle.dimacs.specs.Rules.{column_of, within}
 use Rattle.dimacs.specs.Gr.{gr_rules}
 use Rattle.dimacs.specs.Co.{co_rules}
 use Rattle.dimacs.specs.P2p.{p2p_rules}
 use Rattle.dimacs.specs.Formats.{format_line, rules_of}
-use Rattle.dimacs.specs.Judgement.{announced, judged, ended}
+use Rattle.dimacs.specs.Judgement.{numbers_of, is_seen, announced, judged, ended}
 use Rattle.dimacs.specs.Texts.{Outcome, read, State, start, place, next, on_judged, read_lines, read_text}
 use Rattle.dimacs.specs.Fair.{Fair, FormatFair}
 use Rattle.dimacs.specs.declared.rows.Column.{Column}
@@ -34,6 +33,8 @@ use Rattle.dimacs.specs.declared.format.Format.{Format}
 use Rattle.dimacs.specs.declared.format.Format.TheVariants.{Graph, Coordinates, Queries}
 use Rattle.dimacs.proofs.Counting.{trues, At, clash, trues_set, full, none-taken, trues_none}
 use Rattle.dimacs.proofs.Fairness.{fair_of, column_below, inside, once_in, problem_fine, DataFine, data_fine}
+use Rattle.std.specs.Prelude.{Result, Ok, Err}
+use Rattle.scan.specs.declared.fields.Fault.{Fault}
 
 -- a data line is within limits, and one of each node stands at its node's place
 pub record Entry (R : Rules) (i : ℕ) (ns : Numbers) : Type 0 where
@@ -56,15 +57,15 @@ reach R s = cond R.once R.entries.most.first s.head.count
 record Kept (F : Format) (s : State) : Type 0 where
   pub taken_long : length s.taken ≡ 2048
   pub lines_long : length s.lines ≡ 2048
-  pub unseen : s.head.seen ≡ false → s.head.count ≡ 0
-  pub nodes : s.head.problem.first ≤ 512
-  pub counts : (c : Column) → column_of c s.head.problem ≤ 2048
-  pub problem : s.head.seen ≡ true → within (rules_of F s.head.problem).problem s.head.problem ≡ true
-  pub fewest : s.head.seen ≡ true → (rules_of F s.head.problem).fewest ≤ announced (rules_of F s.head.problem) s.head.problem
-  pub most : s.head.seen ≡ true → announced (rules_of F s.head.problem) s.head.problem ≤ (rules_of F s.head.problem).most
+  pub unseen : (is_seen s.head) ≡ false → s.head.count ≡ 0
+  pub nodes : (numbers_of s.head).first ≤ 512
+  pub counts : (c : Column) → column_of c (numbers_of s.head) ≤ 2048
+  pub problem : (is_seen s.head) ≡ true → within (rules_of F (numbers_of s.head)).problem (numbers_of s.head) ≡ true
+  pub fewest : (is_seen s.head) ≡ true → (rules_of F (numbers_of s.head)).fewest ≤ announced (rules_of F (numbers_of s.head)) (numbers_of s.head)
+  pub most : (is_seen s.head) ≡ true → announced (rules_of F (numbers_of s.head)) (numbers_of s.head) ≤ (rules_of F (numbers_of s.head)).most
   pub counted : trues s.taken ≡ s.head.count
-  pub below : (i : ℕ) → At s.taken i → i < reach (rules_of F s.head.problem) s
-  pub entry : (i : ℕ) → At s.taken i → Entry (rules_of F s.head.problem) i (get_or s.lines i none)
+  pub below : (i : ℕ) → At s.taken i → i < reach (rules_of F (numbers_of s.head)) s
+  pub entry : (i : ℕ) → At s.taken i → Entry (rules_of F (numbers_of s.head)) i (get_or s.lines i none)
 
 -- ---- the start
 
@@ -101,16 +102,16 @@ alike_rules (Coordinates n) a b = (refl, refl, refl, refl)
 alike_rules (Queries n) a b = (refl, refl, refl, refl)
 
 module _ (F : Format) (ok : FormatFair F) (s : State) (g : Kept F s) (k : ℕ) where
-  fair : Fair (rules_of F s.head.problem)
-  fair = fair_of F ok s.head.problem g.nodes
+  fair : Fair (rules_of F (numbers_of s.head))
+  fair = fair_of F ok (numbers_of s.head) g.nodes
 
-  kept_problem : (ns : Numbers) → judged (rules_of F s.head.problem) s.head s.taken k (Problem ns) ≡ Fine → Kept F (next (rules_of F s.head.problem) s (Problem ns))
+  kept_problem : (ns : Numbers) → judged (rules_of F (numbers_of s.head)) s.head s.taken k (Ok (Problem ns)) ≡ Ok tt → Kept F (next (rules_of F (numbers_of s.head)) s (Ok (Problem ns)))
   unfolding judged next
   kept_problem ns e =
-      let R = rules_of F s.head.problem in
+      let R = rules_of F (numbers_of s.head) in
       let f = problem_fine R s.head k ns e in
       let i = inside R.problem ns f.inside in
-      let same = alike_rules F s.head.problem ns in
+      let same = alike_rules F (numbers_of s.head) ns in
       let agreed = and_true (leb R.fewest (announced R ns)) (leb (announced R ns) R.most) f.agrees in
       let empty : trues s.taken ≡ 0 = g.counted ∙ g.unseen (not-true _ f.unseen) in
       record {
@@ -133,10 +134,10 @@ module _ (F : Format) (ok : FormatFair F) (s : State) (g : Kept F s) (k : ℕ) w
 after : (l : List Bool) (i j : ℕ) → i < length l → At (set l i true) j → (j ≡ i → ⊥) → At l j
 after l i j h a other = sym (get_or-set_other l i j true false other) ∙ a
 
-module _ (F : Format) (ok : FormatFair F) (s : State) (g : Kept F s) (k : ℕ) (ns : Numbers) (R : Rules) (er : R ≡ rules_of F s.head.problem)
+module _ (F : Format) (ok : FormatFair F) (s : State) (g : Kept F s) (k : ℕ) (ns : Numbers) (R : Rules) (er : R ≡ rules_of F (numbers_of s.head))
     (f : DataFine R s.head s.taken ns) (i : ℕ) (ei : i ≡ place R s.head ns) where
   fair_rules : Fair R
-  fair_rules = rw er (fair_of F ok s.head.problem g.nodes)
+  fair_rules = rw er (fair_of F ok (numbers_of s.head) g.nodes)
 
   node_place : R.once ≡ true → i + 1 ≡ ns.first
   node_place o =
@@ -182,7 +183,7 @@ module _ (F : Format) (ok : FormatFair F) (s : State) (g : Kept F s) (k : ℕ) (
       by_once true o = omega (arith, node_place o, (inside R.entries ns f.inside).high.first)
       by_once false o = omega (arith, next_place o)
 
-  kept_data : Kept F (record { head = record { seen = s.head.seen; problem = s.head.problem; count = s.head.count + 1 }; taken = set s.taken i true; lines = set s.lines i ns })
+  kept_data : Kept F (record { head = record { problem = s.head.problem; count = s.head.count + 1 }; taken = set s.taken i true; lines = set s.lines i ns })
   kept_data =
       let low : i < length s.taken = omega (arith, in_row, g.taken_long) in
       let room : i < length s.lines = omega (arith, in_row, g.lines_long) in
@@ -208,28 +209,28 @@ module _ (F : Format) (ok : FormatFair F) (s : State) (g : Kept F s) (k : ℕ) (
 
 -- ---- all lines
 
-pub onward : (j : Judged) (o : Outcome) (p : Numbers) (ls : List Numbers) → on_judged j o ≡ read p ls → (j ≡ Fine) × (o ≡ read p ls)
+pub onward : (j : Judged) (o : Outcome) (p : Numbers) (ls : List Numbers) → on_judged j o ≡ read p ls → (j ≡ Ok tt) × (o ≡ read p ls)
 unfolding on_judged
-onward Fine o p ls e = (refl, e)
-onward (Refused r) o p ls e = absurd (let z : ◌≡◌ {A = ℕ} 0 1 = cc in omega arith)
+onward (Ok _) o p ls e = (refl, e)
+onward (Err r) o p ls e = cc
 
-kept_line : (F : Format) → FormatFair F → (s : State) → Kept F s → (k : ℕ) (l : Line) → judged (rules_of F s.head.problem) s.head s.taken k l ≡ Fine
-    → Kept F (next (rules_of F s.head.problem) s l)
+kept_line : (F : Format) → FormatFair F → (s : State) → Kept F s → (k : ℕ) (l : Result Line Fault) → judged (rules_of F (numbers_of s.head)) s.head s.taken k l ≡ Ok tt
+    → Kept F (next (rules_of F (numbers_of s.head)) s l)
 unfolding next judged
-kept_line F ok s g k Comment e = g
-kept_line F ok s g k (Problem ns) e = kept_problem F ok s g k ns e
-kept_line F ok s g k (Data ns) e =
-    let R = rules_of F s.head.problem in
+kept_line F ok s g k (Ok Comment) e = g
+kept_line F ok s g k (Ok (Problem ns)) e = kept_problem F ok s g k ns e
+kept_line F ok s g k (Ok (Data ns)) e =
+    let R = rules_of F (numbers_of s.head) in
     kept_data F ok s g k ns R refl (data_fine R s.head s.taken k ns e) (place R s.head ns) refl
-kept_line F ok s g k (Faulty f) e = g
+kept_line F ok s g k (Err f) e = g
 
-kept_end : (F : Format) → FormatFair F → (s : State) (k : ℕ) → Kept F s → ended (rules_of F s.head.problem) s.head k ≡ Fine
-    → Sound F s.head.problem (take (announced (rules_of F s.head.problem) s.head.problem) s.lines)
+kept_end : (F : Format) → FormatFair F → (s : State) (k : ℕ) → Kept F s → ended (rules_of F (numbers_of s.head)) s.head k ≡ Ok tt
+    → Sound F (numbers_of s.head) (take (announced (rules_of F (numbers_of s.head)) (numbers_of s.head)) s.lines)
 unfolding ended
 kept_end F ok s k g e =
-    let R = rules_of F s.head.problem in
-    let m = announced R s.head.problem in
-    let d = and_true s.head.seen (eqb s.head.count m) (passed _ _ e) in
+    let R = rules_of F (numbers_of s.head) in
+    let m = announced R (numbers_of s.head) in
+    let d = and_true (is_seen s.head) (eqb s.head.count m) (passed _ _ e) in
     let all : s.head.count ≡ m = eqb-true _ _ d.1 in
     let in_lines : m ≤ length s.lines = omega (arith, g.counts R.count, g.lines_long) in
     record {
@@ -240,21 +241,21 @@ kept_end F ok s k g e =
       entry = λ i h. rw (get_or-take m s.lines i none h) (g.entry i (full s.taken m (λ j a. by_once R.once refl d.0 all j (g.below j a)) (omega (arith, g.counted)) i h));
     }
   where
-    by_once : (z : Bool) → (rules_of F s.head.problem).once ≡ z → s.head.seen ≡ true → s.head.count ≡ announced (rules_of F s.head.problem) s.head.problem
-        → (j : ℕ) → j < cond z (rules_of F s.head.problem).entries.most.first s.head.count → j < announced (rules_of F s.head.problem) s.head.problem
-    by_once true o d all j h = omega (arith, (fair_of F ok s.head.problem g.nodes).all o, g.fewest d)
+    by_once : (z : Bool) → (rules_of F (numbers_of s.head)).once ≡ z → (is_seen s.head) ≡ true → s.head.count ≡ announced (rules_of F (numbers_of s.head)) (numbers_of s.head)
+        → (j : ℕ) → j < cond z (rules_of F (numbers_of s.head)).entries.most.first s.head.count → j < announced (rules_of F (numbers_of s.head)) (numbers_of s.head)
+    by_once true o d all j h = omega (arith, (fair_of F ok (numbers_of s.head) g.nodes).all o, g.fewest d)
     by_once false o d all j h = omega arith
 
 sound_lines : (F : Format) → FormatFair F → (ls : List (List ℕ)) (k : ℕ) (s : State) → Kept F s → (p : Numbers) (lines : List Numbers) → read_lines F ls k s ≡ read p lines → Sound F p lines
 unfolding read_lines
 sound_lines F ok [] k s g p lines e =
     let d = onward _ _ _ _ e in
-    let a : s.head.problem ≡ p = cc in
-    let b : take (announced (rules_of F s.head.problem) s.head.problem) s.lines ≡ lines = cc in
+    let a : (numbers_of s.head) ≡ p = cc in
+    let b : take (announced (rules_of F (numbers_of s.head)) (numbers_of s.head)) s.lines ≡ lines = cc in
     rw (← a, ← b) (kept_end F ok s k g d.0)
 sound_lines F ok (l ∷ ls) k s g p lines e =
     let d = onward _ _ _ _ e in
-    sound_lines F ok ls (k + 1) (next (rules_of F s.head.problem) s (format_line F l)) (kept_line F ok s g k (format_line F l) d.0) p lines d.1
+    sound_lines F ok ls (k + 1) (next (rules_of F (numbers_of s.head)) s (format_line F l)) (kept_line F ok s g k (format_line F l) d.0) p lines d.1
 
 pub sound : (F : Format) → FormatFair F → (text : List ℕ) (p : Numbers) (lines : List Numbers) → read_text F text ≡ read p lines → Sound F p lines
 unfolding read_text

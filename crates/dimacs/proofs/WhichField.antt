@@ -1,17 +1,16 @@
 -- Request c: what is true of a line's fault.
 use Prim.Native.Nat.{ℕ, ◌≤◌}
-use mathlib.Core.Path.{◌≡◌, refl, ap, ◌∙◌}
-use mathlib.Core.Bool.{Bool, true, false, cond, ◌&&◌, not}
+use mathlib.Core.Path.{◌≡◌, refl}
+use mathlib.Core.Bool.{Bool, true, false, ◌&&◌, not, false≢true}
 use mathlib.Core.List.{List, [], ◌∷◌}
 use native.Mathlib.Omega.{arith}
 use lib.Dec.{leb, ltb}
-use lib.ListN.{length, take, drop}
-use lib.Seq.{length-take-le}
+use lib.ListN.{length}
 use Rattle.rules.specs.Judging.{in_turn, passes}
 use Rattle.rules.specs.Paper.{tells_column, refusal, judged_reply}
 use Rattle.rules.specs.declared.Refusal.TheVariants.{OutOfOrder, BeyondLimits, CountsDisagree, NodeAgain}
 use Rattle.scan.specs.Ascii.{bytes}
-use Rattle.scan.specs.Pieces.{first_at, same_bytes}
+use Rattle.scan.specs.Pieces.{first_at}
 use Rattle.scan.specs.Faults.{HasFault}
 use Rattle.scan.specs.Held.{held_line}
 use Rattle.scan.specs.declared.fields.Kind.{Kind}
@@ -19,33 +18,32 @@ use Rattle.scan.specs.declared.fields.Kind.TheVariants.{EmptyLine, NoLetter, Mis
 use Rattle.scan.specs.declared.fields.Fault.{Fault}
 use Rattle.scan.specs.declared.holding.Numbers.{Numbers}
 use Rattle.scan.specs.declared.line.Line.{Line}
-use Rattle.scan.specs.declared.line.Line.TheVariants.{Comment, Problem, Data, Faulty}
+use Rattle.scan.specs.declared.line.Line.TheVariants.{Comment, Problem, Data}
 use Rattle.scan.proofs.FaultLaws.{Forms, line-seen, formless_fault, fault_formless, seen-within}
-use Rattle.scan.proofs.PieceLaws.{rest_long}
 use Rattle.dimacs.specs.Rules.{within}
 use Rattle.dimacs.specs.Gr.{gr_problem, gr_arc, gr_line}
 use Rattle.dimacs.specs.Co.{co_problem, co_node, co_line}
 use Rattle.dimacs.specs.P2p.{p2p_problem, p2p_query, p2p_line}
 use Rattle.dimacs.specs.Formats.{format_line}
-use Rattle.dimacs.specs.Judgement.{announced, problem_judged, again, data_judged, fault_at, judged}
+use Rattle.dimacs.specs.Judgement.{numbers_of, is_seen, announced, problem_judged, again, data_judged, fault_at, judged}
 use Rattle.dimacs.specs.WhichField.{FaultExactly, ToldExactly, FaultSeen, ColumnWithin}
-use Rattle.dimacs.specs.Fair.{Short}
 use Rattle.dimacs.specs.declared.format.Format.{Format}
 use Rattle.dimacs.specs.declared.format.Format.TheVariants.{Graph, Coordinates, Queries}
 use Rattle.dimacs.specs.declared.format.Rules.{Rules}
 use Rattle.dimacs.specs.declared.judge.Head.{Head}
+use Rattle.std.specs.Prelude.{Result, Ok, Err}
 
 -- the letters of each format
 gr_forms : Forms gr_problem gr_arc
-unfolding bytes first_at same_bytes
+unfolding bytes first_at
 gr_forms = record { problem_word = refl; rows-word = refl; problem_some = omega arith; rows_some = omega arith; apart = refl }
 
 co_forms : Forms co_problem co_node
-unfolding bytes first_at same_bytes
+unfolding bytes first_at
 co_forms = record { problem_word = refl; rows-word = refl; problem_some = omega arith; rows_some = omega arith; apart = refl }
 
 p2p_forms : Forms p2p_problem p2p_query
-unfolding bytes first_at same_bytes
+unfolding bytes first_at
 p2p_forms = record { problem_word = refl; rows-word = refl; problem_some = omega arith; rows_some = omega arith; apart = refl }
 
 pub fault_exactly : (F : Format) (s : List ℕ) → FaultExactly F s
@@ -66,13 +64,13 @@ column_within F s f e = seen-within s f (fault-seen F s f e)
 -- ---- the numbers that are told
 
 no_fault : {A : Type 0} → false ≡ true → A
-no_fault e = absurd (let z : ◌≡◌ {A = ℕ} 0 1 = ap (λ (q : Bool). cond q 1 0) e in omega arith)
+no_fault e = absurd (false≢true e)
 
 -- what a line with a form is refused as
 module _ (R : Rules) (h : Head) (taken : List Bool) (k : ℕ) (ns : Numbers) where
   problem_other : tells_column (judged_reply (problem_judged R h k ns)).number ≡ true → ⊥
   unfolding problem_judged
-  problem_other e = by_tests (not h.seen) (within R.problem ns) (leb R.fewest (announced R ns) && leb (announced R ns) R.most) e
+  problem_other e = by_tests (not (is_seen h)) (within R.problem ns) (leb R.fewest (announced R ns) && leb (announced R ns) R.most) e
     where
       by_tests : (a b c : Bool) → tells_column (judged_reply (in_turn (passes a (OutOfOrder k) ∷ passes b (BeyondLimits k) ∷ passes c (CountsDisagree k) ∷ []))).number ≡ true → ⊥
       by_tests false b c e = no_fault e
@@ -82,7 +80,7 @@ module _ (R : Rules) (h : Head) (taken : List Bool) (k : ℕ) (ns : Numbers) whe
 
   data_other : tells_column (judged_reply (data_judged R h taken k ns)).number ≡ true → ⊥
   unfolding data_judged
-  data_other e = by_tests h.seen (within R.entries ns) (not (again R taken ns.first)) (ltb h.count (announced R h.problem)) e
+  data_other e = by_tests (is_seen h) (within R.entries ns) (not (again R taken ns.first)) (ltb h.count (announced R (numbers_of h))) e
     where
       by_tests : (a b c d : Bool) → tells_column (judged_reply (in_turn (passes a (OutOfOrder k) ∷ passes b (BeyondLimits k) ∷ passes c (NodeAgain k) ∷ passes d (CountsDisagree k) ∷ []))).number ≡ true → ⊥
       by_tests false b c d e = no_fault e
@@ -92,14 +90,14 @@ module _ (R : Rules) (h : Head) (taken : List Bool) (k : ℕ) (ns : Numbers) whe
       by_tests true true true true e = no_fault e
 
 module _ (R : Rules) (h : Head) (taken : List Bool) (k : ℕ) where
-  told-fault : (l : Line) → tells_column (judged_reply (judged R h taken k l)).number ≡ true → HasFault l
+  told-fault : (l : Result Line Fault) → tells_column (judged_reply (judged R h taken k l)).number ≡ true → HasFault l
   unfolding judged
-  told-fault Comment e = no_fault e
-  told-fault (Problem ns) e = absurd (problem_other R h taken k ns e)
-  told-fault (Data ns) e = absurd (data_other R h taken k ns e)
-  told-fault (Faulty f) e = (f, refl)
+  told-fault (Ok Comment) e = no_fault e
+  told-fault (Ok (Problem ns)) e = absurd (problem_other R h taken k ns e)
+  told-fault (Ok (Data ns)) e = absurd (data_other R h taken k ns e)
+  told-fault (Err f) e = (f, refl)
 
-  fault-told : (l : Line) → HasFault l → tells_column (judged_reply (judged R h taken k l)).number ≡ true
+  fault-told : (l : Result Line Fault) → HasFault l → tells_column (judged_reply (judged R h taken k l)).number ≡ true
   unfolding judged
   fault-told l (f, e) = rw e (by_kind f.kind)
     where
@@ -116,16 +114,12 @@ told_exactly F s R h taken k =
 
 -- ---- a column fits into 32 bits
 
-held_short : (l : Line) → ((f : Fault) → l ≡ Faulty f → f.column ≤ 65537) → Short (held_line l)
+held_fault : (l : Result Line Fault) (f : Fault) → held_line l ≡ Err f → l ≡ Err f
 unfolding held_line
-held_short Comment h = tt
-held_short (Problem ns) h = tt
-held_short (Data ns) h = tt
-held_short (Faulty f) h = h f refl
+held_fault (Ok Comment) f e = cc
+held_fault (Ok (Problem ns)) f e = cc
+held_fault (Ok (Data ns)) f e = cc
+held_fault (Err x) f e = e
 
--- the line l that ends after e bytes of t, which is what is left of the text
-pub short_line : (F : Format) (text t s : List ℕ) (at e : ℕ) (l : Line) → length text ≤ 65536 → t ≡ drop at text → e ≤ length t → s ≡ take e t → l ≡ held_line (format_line F s) → Short l
-short_line F text t s at e l few rest k cut held =
-    let long : length s ≡ e = ap (length {A = ℕ}) cut ∙ length-take-le e t k in
-    let left = rest_long text t at rest in
-    rw held (held_short (format_line F s) (λ f p. omega (arith, (column_within F s f p).1, long, left, k, few)))
+pub short_line : (F : Format) (s : List ℕ) (f : Fault) → length s ≤ 65536 → held_line (format_line F s) ≡ Err f → f.column ≤ 65537
+short_line F s f few e = omega (arith, (column_within F s f (held_fault (format_line F s) f e)).1)

@@ -10,9 +10,9 @@ use lib.ListN.{length, drop}
 use Rattle.rules.specs.Paper.{accepted}
 use Rattle.rules.specs.declared.Refusal.TheVariants.{EmptyLine, OutOfOrder, BeyondLimits, CountsDisagree, NoLetter, Misspelt, FieldCount}
 use Rattle.scan.specs.Ascii.{bytes}
-use Rattle.scan.specs.Pieces.{opening, pieces, first_at, same_bytes}
-use Rattle.scan.specs.Numbers.{value_from, natural_of, plain, negated, integer_of}
-use Rattle.scan.specs.Fields.{before, taken_natural, taken_integer, taken, on_field, matched}
+use Rattle.scan.specs.Pieces.{opening, pieces, first_at}
+use Rattle.scan.specs.Numbers.{value_from, natural_of, negated, integer_of}
+use Rattle.scan.specs.Fields.{before, taken, on_field, matched}
 use Rattle.scan.specs.Line.{line_of}
 use Rattle.dimacs.specs.Rules.{naturals, located, within}
 use Rattle.dimacs.specs.Gr.{gr_line, gr_rules}
@@ -20,12 +20,11 @@ use Rattle.dimacs.specs.Co.{co_line, co_rules}
 use Rattle.dimacs.specs.P2p.{p2p_line, p2p_rules}
 use Rattle.dimacs.specs.Judgement.{problem_judged, data_judged, judged, ended}
 use Rattle.dimacs.specs.Texts.{Outcome, read, refused, next, on_judged, read_lines, read_text}
-use Rattle.dimacs.specs.Rules.{column_of, axis_of}
+use Rattle.dimacs.specs.Rules.{column_of}
 use Rattle.dimacs.specs.Rows.{row, open_row}
 use Rattle.dimacs.specs.Reading.{read_gr, gr_says, read_co, co_says}
 use Rattle.dimacs.specs.declared.format.Format.TheVariants.{Graph, Coordinates, Queries}
 use Rattle.dimacs.specs.declared.rows.Column.TheVariants.{First, Second, Third}
-use Rattle.dimacs.specs.declared.rows.Axis.TheVariants.{X, Y}
 use Rattle.dimacs.proofs.Replies.{gr_text_lem, co_text_lem}
 
 pub net_gr : List ℕ
@@ -51,7 +50,7 @@ pub worked_texts :
     × (co (bytes "v 1 07 1") ≡ refused (Misspelt 2 5))
     × (read_text Graph [] ≡ refused (CountsDisagree 1))
     × (read_text (Coordinates 2) [] ≡ refused (CountsDisagree 1))
-unfolding net_gr net_co bytes opening pieces first_at same_bytes value_from natural_of plain negated integer_of before taken_natural taken_integer taken on_field matched line_of
+unfolding net_gr net_co bytes opening pieces first_at value_from natural_of negated integer_of before taken on_field matched line_of
     within gr_line gr_rules co_line co_rules problem_judged data_judged judged ended next on_judged read_lines read_text
 worked_texts = (refl, refl, refl, refl, refl, refl, refl, refl)
 
@@ -63,7 +62,7 @@ pub worked_faults :
     × (gr (bytes "p aux sp co 4") ≡ refused (Misspelt 2 3))
     × (gr (bytes "a 1 2") ≡ refused (FieldCount 2 6))
     × (co (bytes "v 1 0 0 ") ≡ refused (FieldCount 2 9))
-unfolding bytes opening pieces first_at same_bytes value_from natural_of plain negated integer_of before taken_natural taken_integer taken on_field matched line_of
+unfolding bytes opening pieces first_at value_from natural_of negated integer_of before taken on_field matched line_of
     within gr_line gr_rules co_line co_rules problem_judged data_judged judged ended next on_judged read_lines read_text
 worked_faults = (refl, refl, refl, refl, refl, refl)
 
@@ -84,7 +83,7 @@ pub worked_lists :
     × (p2p (bytes "q 1 2\n") ≡ refused (OutOfOrder 1))
     × (p2p (bytes "p aux sp co 1\n") ≡ refused (Misspelt 1 10))
     × (p2p (bytes "p aux sp p2p 1\nq 1 2 3\n") ≡ refused (FieldCount 2 7))
-unfolding bytes opening pieces first_at same_bytes value_from natural_of plain negated integer_of before taken_natural taken_integer taken on_field matched line_of
+unfolding bytes opening pieces first_at value_from natural_of negated integer_of before taken on_field matched line_of
     within p2p_line p2p_rules problem_judged data_judged judged ended next on_judged read_lines read_text
 worked_lists = (refl, refl, refl, refl, refl, refl, refl, refl, refl, refl, refl)
 
@@ -101,7 +100,7 @@ net_gr_read tails heads weights closures h = rw (gr_text_lem net_gr tails heads 
 
 pub net_co_read : (x y : List ℤ) → leb 512 (length x) && leb 512 (length y) ≡ true
     → (co_says (read_co net_co 4 x y) ≡ accepted [])
-    × (row (axis_of X) (read_co net_co 4 x y) x ≡ pos 0 ∷ pos 10 ∷ pos 10 ∷ negsuc 4 ∷ drop 4 x)
-    × (row (axis_of Y) (read_co net_co 4 x y) y ≡ pos 0 ∷ pos 0 ∷ pos 5 ∷ pos 20 ∷ drop 4 y)
+    × (row (λ ns. ns.x) (read_co net_co 4 x y) x ≡ pos 0 ∷ pos 10 ∷ pos 10 ∷ negsuc 4 ∷ drop 4 x)
+    × (row (λ ns. ns.y) (read_co net_co 4 x y) y ≡ pos 0 ∷ pos 0 ∷ pos 5 ∷ pos 20 ∷ drop 4 y)
 unfolding co_says row net_co bytes
 net_co_read x y h = rw (co_text_lem net_co 4 x y (omega arith) h refl, worked_texts.1) (refl, refl, refl)

@@ -1,8 +1,9 @@
 -- The coordinate format: the forms of a line, and its limits.
-use Rattle.std.specs.Prelude.{ℕ, List, true}
+use Rattle.std.specs.Prelude.{ℕ, List, true, Result}
 use Rattle.rules.specs.Limits.{most_nodes, least_coordinate, most_coordinate}
 use Rattle.scan.specs.Ascii.{bytes}
 use Rattle.scan.specs.Line.{line_of}
+use Rattle.scan.specs.declared.fields.Fault.{Fault}
 use Rattle.scan.specs.declared.line.Line.{Line}
 use Rattle.dimacs.specs.Rules.{naturals, located}
 use Rattle.dimacs.specs.declared.rows.Column.TheVariants.{First}
@@ -15,7 +16,7 @@ co_problem = bytes "p aux sp co N"
 abbrev pub co_node : List ℕ
 co_node = bytes "v ID X Y"
 
-unfoldable pub co_line : List ℕ → Line
+unfoldable pub co_line : List ℕ → Result Line Fault
 co_line s = line_of co_problem co_node s
 
 -- for a graph of n nodes. `p aux sp co N`: N from 1 to 512, and equal to n; it counts the node lines.

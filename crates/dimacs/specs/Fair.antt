@@ -1,8 +1,6 @@
 -- What holds of every format's rules and lines, as the proofs need it. No public statement cites this.
 use Rattle.std.specs.Prelude.{◌≤◌, ◌<◌, ◌≡◌, true, ℤ, pos, negsuc}
 use Rattle.scan.specs.declared.holding.Numbers.{Numbers}
-use Rattle.scan.specs.declared.line.Line.{Line}
-use Rattle.scan.specs.declared.line.Line.TheVariants.{Comment, Problem, Data, Faulty}
 use Rattle.dimacs.specs.Rules.{column_of}
 use Rattle.dimacs.specs.declared.rows.Column.{Column}
 use Rattle.dimacs.specs.declared.format.Limits.{Limits}
@@ -40,10 +38,3 @@ abbrev pub FormatFair : Format → Type 0
 FormatFair Graph = Unit
 FormatFair (Coordinates n) = n ≤ 512
 FormatFair (Queries n) = n ≤ 512
-
--- a fault whose column is on a line of the longest text, or just after it
-abbrev pub Short : Line → Type 0
-Short Comment = Unit
-Short (Problem ns) = Unit
-Short (Data ns) = Unit
-Short (Faulty f) = f.column ≤ 65_537

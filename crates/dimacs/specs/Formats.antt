@@ -1,5 +1,6 @@
 -- The formats. A further one adds its forms and its rules here.
-use Rattle.std.specs.Prelude.{ℕ, List}
+use Rattle.std.specs.Prelude.{ℕ, List, Result}
+use Rattle.scan.specs.declared.fields.Fault.{Fault}
 use Rattle.scan.specs.declared.line.Line.{Line}
 use Rattle.scan.specs.declared.holding.Numbers.{Numbers}
 use Rattle.dimacs.specs.Gr.{gr_line, gr_rules}
@@ -10,7 +11,7 @@ use Rattle.dimacs.specs.declared.format.Format.TheVariants.{Graph, Coordinates, 
 use Rattle.dimacs.specs.declared.format.Rules.{Rules}
 
 -- what a line is
-abbrev pub format_line : Format → List ℕ → Line
+abbrev pub format_line : Format → List ℕ → Result Line Fault
 format_line Graph s = gr_line s
 format_line (Coordinates n) s = co_line s
 format_line (Queries n) s = p2p_line s

@@ -1,8 +1,9 @@
 -- The graph format: the forms of a line, and its limits.
-use Rattle.std.specs.Prelude.{ℕ, List, false}
+use Rattle.std.specs.Prelude.{ℕ, List, false, Result}
 use Rattle.rules.specs.Limits.{most_nodes, most_arcs, most_weight}
 use Rattle.scan.specs.Ascii.{bytes}
 use Rattle.scan.specs.Line.{line_of}
+use Rattle.scan.specs.declared.fields.Fault.{Fault}
 use Rattle.scan.specs.declared.line.Line.{Line}
 use Rattle.dimacs.specs.Rules.{naturals}
 use Rattle.dimacs.specs.declared.rows.Column.TheVariants.{Second}
@@ -15,7 +16,7 @@ gr_problem = bytes "p sp N M"
 abbrev pub gr_arc : List ℕ
 gr_arc = bytes "a U V W"
 
-unfoldable pub gr_line : List ℕ → Line
+unfoldable pub gr_line : List ℕ → Result Line Fault
 gr_line s = line_of gr_problem gr_arc s
 
 -- after a problem line with N = n. `p sp N M`: N from 1 to 512, M from 0 to 2,048; M, the second, counts the arc lines.

@@ -1,8 +1,9 @@
 -- The format of a day's list: the forms of a line, and its limits.
-use Rattle.std.specs.Prelude.{ℕ, List, false}
+use Rattle.std.specs.Prelude.{ℕ, List, false, Result}
 use Rattle.rules.specs.Limits.{most_queries}
 use Rattle.scan.specs.Ascii.{bytes}
 use Rattle.scan.specs.Line.{line_of}
+use Rattle.scan.specs.declared.fields.Fault.{Fault}
 use Rattle.scan.specs.declared.line.Line.{Line}
 use Rattle.dimacs.specs.Rules.{naturals}
 use Rattle.dimacs.specs.declared.rows.Column.TheVariants.{First}
@@ -15,7 +16,7 @@ p2p_problem = bytes "p aux sp p2p K"
 abbrev pub p2p_query : List ℕ
 p2p_query = bytes "q S T"
 
-unfoldable pub p2p_line : List ℕ → Line
+unfoldable pub p2p_line : List ℕ → Result Line Fault
 p2p_line s = line_of p2p_problem p2p_query s
 
 -- for a graph of n nodes. `p aux sp p2p K`: K from 0 to 256; it counts the query lines.

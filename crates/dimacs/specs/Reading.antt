@@ -1,31 +1,27 @@
 -- The readers: what is judged before the first line, the text, and what the paper is told.
-use Rattle.std.specs.Prelude.{ℕ, List, [], ◌∷◌, ◌&&◌, leb, ℤ, length}
+use Rattle.std.specs.Prelude.{ℕ, List, [], ◌∷◌, ◌&&◌, leb, ℤ, length, Result, Ok, Err}
 use Rattle.rules.specs.Limits.{most_nodes, most_arcs, most_queries, longest_text}
-use Rattle.rules.specs.Judging.{in_turn, passes}
+use Rattle.rules.specs.Judging.{Judged, in_turn, passes}
 use Rattle.rules.specs.Paper.{Reply, refusal, accepted}
+use Rattle.rules.specs.declared.Refusal.{Refusal}
 use Rattle.rules.specs.declared.Refusal.TheVariants.{TextTooLong, RowTooShort, BeyondLimits}
 use Rattle.dimacs.specs.Texts.{Outcome, read, refused, on_judged, read_text}
 use Rattle.dimacs.specs.declared.format.Format.TheVariants.{Graph, Coordinates, Queries}
-use Rattle.dimacs.specs.declared.GrReply.{GrReply}
-use Rattle.dimacs.specs.declared.GrReply.TheVariants.{Read as GrRead, Refused as GrRefused}
-use Rattle.dimacs.specs.declared.CoReply.{CoReply}
-use Rattle.dimacs.specs.declared.CoReply.TheVariants.{Read as CoRead, Refused as CoRefused}
-use Rattle.dimacs.specs.declared.P2pReply.{P2pReply}
-use Rattle.dimacs.specs.declared.P2pReply.TheVariants.{Read as P2pRead, Refused as P2pRefused}
+use Rattle.rules.specs.declared.Sizes.{Sizes}
 
 -- The paper's reply of each answer.
 
-abbrev pub gr_reply : GrReply → Reply
-gr_reply (GrRead n m) = accepted (n ∷ m ∷ [])
-gr_reply (GrRefused r) = refusal r
+abbrev pub gr_reply : Result Sizes Refusal → Reply
+gr_reply (Ok s) = accepted (s.n ∷ s.m ∷ [])
+gr_reply (Err r) = refusal r
 
-abbrev pub co_reply : CoReply → Reply
-co_reply CoRead = accepted []
-co_reply (CoRefused r) = refusal r
+abbrev pub co_reply : Judged → Reply
+co_reply (Ok _) = accepted []
+co_reply (Err r) = refusal r
 
-abbrev pub p2p_reply : P2pReply → Reply
-p2p_reply (P2pRead k) = accepted (k ∷ [])
-p2p_reply (P2pRefused r) = refusal r
+abbrev pub p2p_reply : Result ℕ Refusal → Reply
+p2p_reply (Ok k) = accepted (k ∷ [])
+p2p_reply (Err r) = refusal r
 
 -- .gr: 1, 2, then the lines.
 

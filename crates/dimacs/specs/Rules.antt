@@ -4,18 +4,12 @@ use Rattle.std.specs.Int.Signed.{le_z}
 use Rattle.scan.specs.declared.holding.Numbers.{Numbers}
 use Rattle.dimacs.specs.declared.rows.Column.{Column}
 use Rattle.dimacs.specs.declared.rows.Column.TheVariants.{First, Second, Third}
-use Rattle.dimacs.specs.declared.rows.Axis.{Axis}
-use Rattle.dimacs.specs.declared.rows.Axis.TheVariants.{X, Y}
 use Rattle.dimacs.specs.declared.format.Limits.{Limits}
 
 abbrev pub column_of : Column → Numbers → ℕ
 column_of First ns = ns.first
 column_of Second ns = ns.second
 column_of Third ns = ns.third
-
-abbrev pub axis_of : Axis → Numbers → ℤ
-axis_of X ns = ns.x
-axis_of Y ns = ns.y
 
 -- numbers without sign
 abbrev pub naturals : ℕ → ℕ → ℕ → Numbers

@@ -1,11 +1,10 @@
 -- Request c: a line's fault is told with its kind and its column, and nothing is refused that has a form. `format_line` and `judged` are
 -- what the readers' promises are made of, so these are about what the readers reply. Each is proved, under the name that stands with
 -- it, in proofs/WhichField.antt.
-use Rattle.std.specs.Prelude.{ℕ, ◌+◌, ◌≤◌, ◌≡◌, ◌↔◌, Bool, true, List, length}
+use Rattle.std.specs.Prelude.{ℕ, ◌+◌, ◌≤◌, ◌≡◌, ◌↔◌, Bool, true, List, length, Err}
 use Rattle.rules.specs.Paper.{tells_column, judged_reply}
 use Rattle.scan.specs.Faults.{HasForm, HasFault, SeenAt}
 use Rattle.scan.specs.declared.fields.Fault.{Fault}
-use Rattle.scan.specs.declared.line.Line.TheVariants.{Faulty}
 use Rattle.dimacs.specs.Gr.{gr_problem, gr_arc}
 use Rattle.dimacs.specs.Co.{co_problem, co_node}
 use Rattle.dimacs.specs.P2p.{p2p_problem, p2p_query}
@@ -34,8 +33,8 @@ module _ (F : Format) (s : List ℕ) where
   -- 3. The fault of an empty line, and of a first field, is seen at column 1; that of a later field where the field begins; that of a
   -- missing one after the line's last byte. `fault-seen`
   abbrev pub FaultSeen : Type 0
-  FaultSeen = (f : Fault) → format_line F s ≡ Faulty f → SeenAt s f.kind f.column
+  FaultSeen = (f : Fault) → format_line F s ≡ Err f → SeenAt s f.kind f.column
 
   -- 4. The column is from 1 to the line's length plus one. `column_within`
   abbrev pub ColumnWithin : Type 0
-  ColumnWithin = (f : Fault) → format_line F s ≡ Faulty f → (1 ≤ f.column) × (f.column ≤ length s + 1)
+  ColumnWithin = (f : Fault) → format_line F s ≡ Err f → (1 ≤ f.column) × (f.column ≤ length s + 1)

@@ -1,13 +1,14 @@
 // What each format says of its lines: their forms, and the limits of the numbers on them.
 ghost use Rattle.std.specs.Prelude.{◌≡◌};
 ghost use Rattle.scan.specs.Held.{held_line};
-ghost use Rattle.dimacs.specs.Rules.{naturals, none_above, within};
-ghost use Rattle.dimacs.specs.Gr.{gr_line, gr_rules};
-ghost use Rattle.dimacs.specs.Co.{co_line, co_rules};
-ghost use Rattle.dimacs.specs.P2p.{p2p_line, p2p_rules};
+ghost use Rattle.dimacs.specs.Rules.{naturals, located, none_above, within};
+ghost use Rattle.dimacs.specs.Gr.{gr_rules};
+ghost use Rattle.dimacs.specs.Co.{co_rules};
+ghost use Rattle.dimacs.specs.P2p.{p2p_rules};
 ghost use Rattle.dimacs.specs.Formats.{format_line, rules_of};
 
 use crate::rows::Column;
+use scan::fields::Fault;
 use scan::holding::Numbers;
 use scan::line::{Line, read_line};
 
@@ -41,8 +42,29 @@ pub struct Rules {
     pub once: bool,
 }
 
+impl Limits {
+    // Whether each number of a line is within its limits.
+    #[tactic(auto, unfolding(crate::specs::Rules::within))]
+    pub fn hold(self, ns: Numbers) -> bool
+        ensures { result ≡ within self ns }
+    {
+        none_above(self.least, ns) && none_above(ns, self.most)
+    }
+}
+
+// Whether each number of a is at most its fellow of b. With `&`, which makes no branches, the check finds the proof.
+fn none_above(a: Numbers, b: Numbers) -> bool
+    ensures { result ≡ none_above a b }
+{
+    (a.first <= b.first)
+        & (a.second <= b.second)
+        & (a.third <= b.third)
+        & (a.x <= b.x)
+        & (a.y <= b.y)
+}
+
 // Numbers without sign.
-fn naturals_of(first: u32, second: u32, third: u32) -> Numbers
+fn naturals(first: u32, second: u32, third: u32) -> Numbers
     ensures { result ≡ naturals first second third }
 {
     Numbers {
@@ -54,135 +76,103 @@ fn naturals_of(first: u32, second: u32, third: u32) -> Numbers
     }
 }
 
-// Whether each number of a is at most its fellow of b.
-fn none_above(a: Numbers, b: Numbers) -> bool
-    ensures { result ≡ none_above a b }
+// A number without sign, and twice one that may have a minus.
+fn located(node: u32, place: i32) -> Numbers
+    ensures { result ≡ located node place place }
 {
-    (a.first <= b.first)
-        & (a.second <= b.second)
-        & (a.third <= b.third)
-        & (a.x <= b.x)
-        & (a.y <= b.y)
-}
-
-// Whether each number of a line is within its limits.
-pub fn are_within(limits: Limits, ns: Numbers) -> bool
-    ensures { result ≡ within limits ns }
-{
-    let least = limits.least;
-    let most = limits.most;
-    none_above(least, ns) & none_above(ns, most)
+    Numbers {
+        first: node,
+        second: 0,
+        third: 0,
+        x: place,
+        y: place,
+    }
 }
 
 // `p sp N M` and `a U V W`, after a problem line with this N.
+#[tactic(auto, unfolding(crate::specs::Gr::gr_rules))]
 fn rules_gr(n: u32) -> Rules
     ensures { result ≡ gr_rules n }
 {
     Rules {
         problem: Limits {
-            least: naturals_of(1, 0, 0),
-            most: naturals_of(rules::NODES, rules::ARCS, 0),
+            least: naturals(1, 0, 0),
+            most: naturals(rules::NODES, rules::ARCS, 0),
         },
         count: Column::Second,
         fewest: 0,
         most: rules::ARCS,
         entries: Limits {
-            least: naturals_of(1, 1, 0),
-            most: naturals_of(n, n, rules::WEIGHT),
+            least: naturals(1, 1, 0),
+            most: naturals(n, n, rules::WEIGHT),
         },
         once: false,
     }
 }
 
 // `p aux sp co N` and `v ID X Y`, for a graph of n nodes.
+#[tactic(auto, unfolding(crate::specs::Co::co_rules))]
 fn rules_co(n: u32) -> Rules
     ensures { result ≡ co_rules n }
 {
     Rules {
         problem: Limits {
-            least: naturals_of(1, 0, 0),
-            most: naturals_of(rules::NODES, 0, 0),
+            least: naturals(1, 0, 0),
+            most: naturals(rules::NODES, 0, 0),
         },
         count: Column::First,
         fewest: n,
         most: n,
         entries: Limits {
-            least: Numbers {
-                first: 1,
-                second: 0,
-                third: 0,
-                x: rules::LEAST_COORDINATE,
-                y: rules::LEAST_COORDINATE,
-            },
-            most: Numbers {
-                first: n,
-                second: 0,
-                third: 0,
-                x: rules::MOST_COORDINATE,
-                y: rules::MOST_COORDINATE,
-            },
+            least: located(1, rules::LEAST_COORDINATE),
+            most: located(n, rules::MOST_COORDINATE),
         },
         once: true,
     }
 }
 
 // `p aux sp p2p K` and `q S T`, for a graph of n nodes.
+#[tactic(auto, unfolding(crate::specs::P2p::p2p_rules))]
 fn rules_p2p(n: u32) -> Rules
     ensures { result ≡ p2p_rules n }
 {
     Rules {
         problem: Limits {
-            least: naturals_of(0, 0, 0),
-            most: naturals_of(rules::QUERIES, 0, 0),
+            least: naturals(0, 0, 0),
+            most: naturals(rules::QUERIES, 0, 0),
         },
         count: Column::First,
         fewest: 0,
         most: rules::QUERIES,
         entries: Limits {
-            least: naturals_of(1, 1, 0),
-            most: naturals_of(n, n, 0),
+            least: naturals(1, 1, 0),
+            most: naturals(n, n, 0),
         },
         once: false,
     }
 }
 
-// The rules of a format after its problem line, or before it with no numbers.
-pub fn rules_for(format: Format, problem: Numbers) -> Rules
-    ensures { result ≡ rules_of format problem }
-{
-    match format {
-        Format::Graph => rules_gr(problem.first),
-        Format::Coordinates(n) => rules_co(n),
-        Format::Queries(n) => rules_p2p(n),
+impl Format {
+    // The rules of a format after its problem line, or before it with no numbers.
+    pub fn rules(self, problem: Numbers) -> Rules
+        ensures { result ≡ rules_of self problem }
+    {
+        match self {
+            Format::Graph => rules_gr(problem.first),
+            Format::Coordinates(n) => rules_co(n),
+            Format::Queries(n) => rules_p2p(n),
+        }
     }
-}
 
-// A line of a graph, of coordinates, and of queries.
-fn line_gr(s: &[u8]) -> Line
-    ensures { result ≡ held_line (gr_line s.now) }
-{
-    read_line(s, b"p sp N M", b"a U V W")
-}
-
-fn line_co(s: &[u8]) -> Line
-    ensures { result ≡ held_line (co_line s.now) }
-{
-    read_line(s, b"p aux sp co N", b"v ID X Y")
-}
-
-fn line_p2p(s: &[u8]) -> Line
-    ensures { result ≡ held_line (p2p_line s.now) }
-{
-    read_line(s, b"p aux sp p2p K", b"q S T")
-}
-
-// What a line is.
-pub fn line_of(format: Format, s: &[u8]) -> Line
-    ensures { result ≡ held_line (format_line format s.now) }
-{
-    match format {
-        Format::Graph => line_gr(s),
-        Format::Coordinates(_) => line_co(s),
-        Format::Queries(_) => line_p2p(s),
+    // What a line is.
+    #[tactic(auto, unfolding(crate::specs::Gr::gr_line, crate::specs::Co::co_line, crate::specs::P2p::p2p_line, scan::specs::Ascii::bytes))]
+    pub fn line(self, s: &[u8]) -> Result<Line, Fault>
+        ensures { result ≡ held_line (format_line self s.now) }
+    {
+        match self {
+            Format::Graph => read_line(s, b"p sp N M", b"a U V W"),
+            Format::Coordinates(_) => read_line(s, b"p aux sp co N", b"v ID X Y"),
+            Format::Queries(_) => read_line(s, b"p aux sp p2p K", b"q S T"),
+        }
     }
 }

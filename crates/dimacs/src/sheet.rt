@@ -3,17 +3,16 @@ ghost use Rattle.std.specs.Prelude.{◌≡◌, true, ◌≤◌, length};
 ghost use Rattle.dimacs.specs.Fair.{FormatFair};
 ghost use Rattle.dimacs.specs.Texts.{place, read_text, outcome_of};
 
-use crate::format::{Format, Rules, line_of, rules_for};
-use crate::judge::{Head, judge, judge_end};
-use rules::Judged;
-use scan::holding::{Numbers, no_numbers};
+use crate::format::{Format, Rules};
+use crate::judge::{Head, judge_data, judge_end, judge_problem, refusal_of};
+use rules::Refusal;
+use scan::holding::Numbers;
 use scan::line::Line;
-use scan::pieces::{first_at, front, rest};
+use scan::pieces::pieces_of;
 
-// A text that is read: how it was judged, its problem line, and its data lines, each at its place.
+// A text that was read: its problem line, and its data lines, each at its place.
 #[derive(Drop)]
 pub struct Sheet {
-    pub judged: Judged,
     pub problem: Numbers,
     pub lines: [Numbers; 2048],
 }
@@ -23,72 +22,43 @@ fn place_of(rules: Rules, head: Head, ns: Numbers) -> usize
     requires { rules.once ≡ true → 1 ≤ ns.first }
     ensures { result ≡ place rules head ns }
 {
-    if rules.once {
-        return (ns.first - 1) as usize;
-    }
-    head.count as usize
+    let place = if rules.once { ns.first - 1 } else { head.count };
+    place as usize
 }
 
 // Reads the lines of a text, one after the other.
-pub fn read_sheet(text: &[u8], format: Format) -> Sheet
+pub fn read_sheet(text: &[u8], format: Format) -> Result<Sheet, Refusal>
     requires { (length text.now ≤ 65536) × FormatFair format }
     ensures { outcome_of format result ≡ read_text format text.now }
 {
-    let mut lines = [no_numbers(); 2048];
+    // A line is handed on as it stands, so what is taken stands beside the lines.
+    let mut lines = [Numbers::default(); 2048];
     let mut taken = [false; 2048];
     let mut head = Head {
-        seen: false,
-        problem: no_numbers(),
+        problem: None,
         count: 0,
     };
-    let mut at: usize = 0;
     let mut line: u32 = 1;
-    while at < text.len() {
-        let t = rest(text, at);
-        let e = first_at(t, b'\n');
-        let l = line_of(format, front(t, e));
-        let seen = head.seen;
-        let problem = head.problem;
-        let count = head.count;
-        let rules = rules_for(format, problem);
-        let judged = judge(rules, head, &taken, l, line);
-        let Judged::Fine = judged else {
-            return Sheet {
-                judged,
-                problem,
-                lines,
-            };
-        };
-        let next = at + e + 1;
-        let below = line + 1;
-        match l {
-            Line::Problem(ns) => {
-                head = Head {
-                    seen: true,
-                    problem: ns,
-                    count,
-                };
+    for s in pieces_of(text, b'\n') {
+        let rules = format.rules(head.numbers());
+        match format.line(s) {
+            Err(fault) => return Err(refusal_of(fault, line)),
+            Ok(Line::Comment) => {}
+            Ok(Line::Problem(ns)) => {
+                judge_problem(rules, head, ns, line)?;
+                head.problem = Some(ns);
             }
-            Line::Data(ns) => {
+            Ok(Line::Data(ns)) => {
+                judge_data(rules, head, &taken, ns, line)?;
                 let i = place_of(rules, head, ns);
                 taken[i] = true;
                 lines[i] = ns;
-                head = Head {
-                    seen,
-                    problem,
-                    count: count + 1,
-                };
+                head.count += 1;
             }
-            Line::Comment => {}
-            Line::Faulty(_) => {}
         }
-        at = next;
-        line = below;
+        line += 1;
     }
-    let problem = head.problem;
-    Sheet {
-        judged: judge_end(rules_for(format, problem), head, line),
-        problem,
-        lines,
-    }
+    let problem = head.numbers();
+    judge_end(format.rules(problem), head, line)?;
+    Ok(Sheet { problem, lines })
 }

@@ -15,7 +15,7 @@ use Rattle.geometry.specs.Box.{Box}
 use Rattle.geometry.specs.Row.{number, box_from, box_of, with_box}
 use Rattle.geometry.proofs.SmallestLaws.{same_box}
 use Rattle.geometry.proofs.RowLaws.{with-length, with_same, with_other, with_past}
-use Rattle.settling.proofs.Choice.{either}
+use Rattle.std.proofs.lemmas.Bool.{cases_Bool}
 use Rattle.drawing.specs.Drawn.{Kind, Row, box_row, single_row, Drawn, DrawnIf}
 
 -- ---- What the laws need of a kind of row
@@ -158,10 +158,10 @@ drawn_unique {K} {m = m} {after = after} {after' = after'} puts one p q =
 -- ---- Drawn where it is asked
 
 pub if_long : {K : Kind} {Is : ℕ → K.Entry → K.Entry → Type 0} {m : ℕ} {before after : Row K} {asked : Bool} → DrawnIf asked K m Is before after → length after ≡ length before
-if_long {asked = asked} d = elim (either asked) [ inl e ↦ (d.drawn e).long | inr e ↦ ap length (d.kept e) ]
+if_long {asked = asked} d = elim (cases_Bool asked) [ inl e ↦ (d.drawn e).long | inr e ↦ ap length (d.kept e) ]
 
 pub if_unique : {K : Kind} {put : Row K → ℕ → K.Entry → Row K} {Is : ℕ → K.Entry → K.Entry → Type 0}
     {m : ℕ} {before after after' : Row K} {asked : Bool}
     → Puts K put → ((e : ℕ) → 1 ≤ e → e ≤ m → (b c c' : K.Entry) → Is e b c → Is e b c' → c ≡ c')
     → DrawnIf asked K m Is before after → DrawnIf asked K m Is before after' → after ≡ after'
-if_unique {asked = asked} puts one p q = elim (either asked) [ inl e ↦ drawn_unique puts one (p.drawn e) (q.drawn e) | inr e ↦ p.kept e ∙ sym (q.kept e) ]
+if_unique {asked = asked} puts one p q = elim (cases_Bool asked) [ inl e ↦ drawn_unique puts one (p.drawn e) (q.drawn e) | inr e ↦ p.kept e ∙ sym (q.kept e) ]

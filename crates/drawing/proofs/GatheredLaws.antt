@@ -11,7 +11,7 @@ use Rattle.geometry.specs.Box.{Box, Within, WellShaped, Smallest}
 use Rattle.geometry.specs.Row.{coordinate}
 use Rattle.geometry.proofs.SmallestLaws.{IsPlace, smallest_same}
 use Rattle.geometry.proofs.MarkLaws.{taken_shaped, taken_smallest}
-use Rattle.settling.proofs.Choice.{cond_by}
+use Rattle.std.proofs.lemmas.Bool.{cond_both}
 use Rattle.masks.specs.Mask.{Has}
 use Rattle.masks.proofs.MaskLaws.{no_module, lighted_has, lighted_small}
 use Rattle.walks.specs.Rows.{at}
@@ -52,7 +52,7 @@ module _ (leads : ℕ → Bool) (x y : List ℤ) {P : ℤ → ℤ → Type 0} {b
       let here = places (suc t) (omega arith) (omega arith) in
       let u = coordinate x (suc t) in
       let v = coordinate y (suc t) in
-      cond_by (Snug (λ px py. P px py ⊎ Led leads x y (suc t) px py)) (leads (suc t)) _ _
+      cond_both (leads (suc t)) _ _ (Snug (λ px py. P px py ⊎ Led leads x y (suc t) px py))
       (λ yes. (
         taken_shaped u v here.0 here.1 old.0,
         smallest_same
@@ -102,7 +102,7 @@ module _ (leads : ℕ → Bool) (modules : List ℕ) where
   lighted_by (suc t) numbers =
       let old = lighted_by t (λ i low high. numbers i low (omega arith)) in
       let here = numbers (suc t) (omega arith) (omega arith) in
-      cond_by (Lights (LedModule leads modules (suc t))) (leads (suc t)) _ _
+      cond_both (leads (suc t)) _ _ (Lights (LedModule leads modules (suc t)))
       (λ yes. (
         lighted_small _ _ here.1 old.0,
         λ j.

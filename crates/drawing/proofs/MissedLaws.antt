@@ -1,96 +1,98 @@
 -- The first node that a box or a mask misses, found node by node.
-use Prim.Native.Nat.{ℕ, ◌+◌, ◌≤◌, ◌<◌}
-use mathlib.Core.Path.{◌≡◌, refl, ap, ◌∙◌}
-use mathlib.Core.Bool.{Bool, true, false}
-use mathlib.Core.List.{List}
-use native.Mathlib.Omega.{arith}
+use Rattle.std.proofs.Common.{ℕ, ◌+◌, ◌-◌, ◌≤◌, ◌<◌, ◌≡◌, refl, ap, ◌∙◌, Bool, true, false, List, ℤ, Option, Some, None, MatchOption, arith}
 use native.Mathlib.Decide.{ℕ_discrete}
 use Rattle.walks.specs.Rows.{Rows}
 use Rattle.rules.specs.declared.Asked.{Asked}
 use Rattle.passing.specs.declared.Tests.{Tests}
 use Rattle.passing.specs.Signs.{Signs}
 use Rattle.passing.specs.Asking.{tests_toward, keeps}
-use Rattle.drawing.specs.declared.compare.Miss.TheVariants.{Nowhere, First}
+use Rattle.drawing.specs.declared.compare.Miss.{Miss}
 use Rattle.drawing.specs.Drawn.{mark_row, mark_of, Drawn}
 use Rattle.drawing.specs.Leads.{leads_to, Marked}
-use Rattle.drawing.specs.Missed.{misses_by, misses_node, BeforeFirst, IsFirst}
+use Rattle.drawing.specs.Missed.{misses_by, misses_node, FirstPlace, IsFirst}
 
--- of the nodes 1..t, none passes the test with an arc of 1..below; if below < m, `node` is the lowest that passes it with the arc below + 1
-pub record Lower (test : ℕ → ℕ → Bool) (m t below node : ℕ) : Type 0 where
-  pub most : below ≤ m
-  pub fails : (j i : ℕ) → 1 ≤ j → j ≤ t → 1 ≤ i → i ≤ below → test j i ≡ false
-  pub node_low : below < m → 1 ≤ node
-  pub node_high : below < m → node ≤ t
-  pub passes : below < m → test node (below + 1) ≡ true
-  pub first : below < m → (j : ℕ) → 1 ≤ j → j < node → test j (below + 1) ≡ false
+-- so many arcs stand before the first miss; all m, if there is none
+abbrev pub Below : ℕ → Option Miss → ℕ → Type 0
+Below m None below = below ≡ m
+Below m (Some miss) below = below + 1 ≡ miss.arc
 
-module _ {test : ℕ → ℕ → Bool} (m : ℕ) where
-  pub lower_none : Lower test m 0 m 0
-  lower_none = record {
-    most = omega arith;
-    fails = λ j i a b c d. absurd (omega arith);
-    node_low = λ l. absurd (omega arith);
-    node_high = λ l. absurd (omega arith);
-    passes = λ l. absurd (omega arith);
-    first = λ l. absurd (omega arith);
-  }
+-- no place below k passes a test, so none of the numbers 1..k does
+by_number : (test : ℕ → Bool) {k : ℕ} → ((i : ℕ) → i < k → test (i + 1) ≡ false) → (i : ℕ) → 1 ≤ i → i ≤ k → test i ≡ false
+by_number test h i low high = let back : i - 1 + 1 ≡ i = omega arith in rw back at (h (i - 1) (omega arith))
 
-module _ {test : ℕ → ℕ → Bool} {m t below node e : ℕ} (h : Lower test m t below node) (k : BeforeFirst (test (t + 1)) below e) where
-  more : (r : ℕ) → r ≤ below → r ≤ e → (j i : ℕ) → 1 ≤ j → j ≤ t + 1 → 1 ≤ i → i ≤ r → test j i ≡ false
-  more r u v j i low high low' high' = elim (ℕ_discrete j (t + 1)) [
-    | yes same ↦ ap (λ (x : ℕ). test x i) same ∙ k.fails i low' (omega arith)
-    | no other ↦ h.fails j i low (omega arith) low' (omega arith)
+module _ (test : ℕ → ℕ → Bool) (m t below : ℕ) where
+  -- of the nodes 1..t, none passes the test with an arc before that of the first miss
+  before : (miss : Option Miss) → IsFirst test t m miss → Below m miss below → (below ≤ m) × ((j i : ℕ) → 1 ≤ j → j ≤ t → 1 ≤ i → i ≤ below → test j i ≡ false)
+  before None none same = (omega arith, λ j i a b c d. none j i a b c (omega arith))
+  before (Some miss) first next = (omega (arith, first.arc_high), λ j i a b c d. first.arc_first j i a b c (omega arith))
+
+  -- the same up to the node t + 1
+  more : (k : ℕ) → ((j i : ℕ) → 1 ≤ j → j ≤ t → 1 ≤ i → i ≤ k → test j i ≡ false) → ((i : ℕ) → i < k → test (t + 1) (i + 1) ≡ false)
+      → (j i : ℕ) → 1 ≤ j → j ≤ t + 1 → 1 ≤ i → i ≤ k → test j i ≡ false
+  more k old here j i low high low' high' = elim (ℕ_discrete j (t + 1)) [
+    | yes same ↦ ap (λ (x : ℕ). test x i) same ∙ by_number (test (t + 1)) here i low' high'
+    | no other ↦ old j i low (omega arith) low' high'
   ]
 
-  -- the node t + 1 passes with a lower arc, or with none
-  pub lower_here : e < below → Lower test m (t + 1) e (t + 1)
-  lower_here l = record {
-    most = omega (arith, h.most);
-    fails = more e (omega arith) (omega arith);
-    node_low = λ q. omega arith;
-    node_high = λ q. omega arith;
-    passes = λ q. k.passes l;
-    first = λ q j low high. h.fails j (e + 1) low (omega arith) (omega arith) (omega arith);
-  }
+  -- the node t + 1 passes with no arc before the first miss, which stays the first
+  pub miss_stays : (miss : Option Miss) → IsFirst test t m miss → Below m miss below → FirstPlace (test (t + 1)) below None
+      → IsFirst test (t + 1) m miss
+  miss_stays None first same none =
+      let old = before None first same in
+      λ j i a b c d. more below old.1 none j i a b c (omega arith)
+  miss_stays (Some miss) first next none =
+      let old = before (Some miss) first next in
+      record {
+        arc_low = first.arc_low;
+        arc_high = first.arc_high;
+        node_low = first.node_low;
+        node_high = omega (arith, first.node_high);
+        passes = first.passes;
+        arc_first = λ j i a b c d. more below old.1 none j i a b c (omega arith);
+        node_first = first.node_first;
+      }
 
-  pub lower_stays : below ≤ e → Lower test m (t + 1) below node
-  lower_stays l = record {
-    most = h.most;
-    fails = more below (omega arith) l;
-    node_low = h.node_low;
-    node_high = λ q. omega (arith, h.node_high q);
-    passes = h.passes;
-    first = h.first;
-  }
+  -- or it passes with one
+  pub miss_found : (miss : Option Miss) {e : ℕ} → IsFirst test t m miss → Below m miss below → FirstPlace (test (t + 1)) below (Some e)
+      → IsFirst test (t + 1) m (Some (record { arc = e + 1; node = t + 1 }))
+  miss_found miss {e} first next here =
+      let old = before miss first next in
+      record {
+        arc_low = omega arith;
+        arc_high = omega (arith, old.0, here.inside);
+        node_low = omega arith;
+        node_high = omega arith;
+        passes = here.passes;
+        arc_first = λ j i a b c d. more e (λ j i a b c d. old.1 j i a b c (omega (arith, here.inside))) here.fails j i a b c (omega arith);
+        node_first = λ j a b. old.1 j (e + 1) a (omega arith) (omega arith) (omega (arith, here.inside));
+      }
 
--- when all nodes are seen
-module _ {test : ℕ → ℕ → Bool} {n m below node : ℕ} (h : Lower test m n below node) where
-  pub lower_found : below < m → IsFirst test n m (First (below + 1) node)
-  lower_found l = record {
-    arc_low = omega arith;
-    arc_high = omega arith;
-    node_low = h.node_low l;
-    node_high = h.node_high l;
-    passes = h.passes l;
-    arc_first = λ j i a b c d. h.fails j i a b c (omega arith);
-    node_first = λ j a b. h.first l j a b;
-  }
+-- as `find` over the places tells it
+pub place_found : (test : ℕ → Bool) (k : ℕ) (r : Option ℕ)
+    → MatchOption r ((i : ℕ) → 0 ≤ i → i < k → test (i + 1) ≡ false)
+    (λ e. (0 ≤ e) × (e < k) × (test (e + 1) ≡ true) × ((i : ℕ) → 0 ≤ i → i < e → test (i + 1) ≡ false))
+    → FirstPlace test k r
+place_found test k None h = λ i l. h i (omega arith) l
+place_found test k (Some e) h = record { inside = h.1; fails = λ i l. h.3 i (omega arith) l; passes = h.2 }
 
-  pub lower_nowhere : m ≤ below → IsFirst test n m Nowhere
-  lower_nowhere l = λ t e a b c d. h.fails t e a b c (omega arith)
-
--- by the marks of the arcs that lead to node t
-pub before_node : (R : Rows) (n m : ℕ) (asked : Asked) (G : Signs) (t : ℕ) {tests : Tests} {unmarked marked : List Bool} {k e : ℕ}
-    → Drawn mark_row k (Marked (leads_to R n m t)) unmarked marked → tests ≡ tests_toward asked G.x G.y G.modules t
-    → BeforeFirst (misses_by (mark_of marked) (keeps tests R.closures G.boxes G.masks)) k e → BeforeFirst (misses_node R n m asked G t) k e
-unfolding misses_node
-before_node R n m asked G t {tests = tests} {marked = marked} {k = k} {e = e} marks told h = record {
-  most = h.most;
-  fails = λ i low high. same i low (omega (arith, h.most)) ∙ h.fails i low high;
-  passes = λ l. same (e + 1) (omega arith) (omega arith) ∙ h.passes l;
+-- a test that is the same for the numbers 1..k has the same first place
+same_place : (test other : ℕ → Bool) (k : ℕ) (r : Option ℕ) → ((i : ℕ) → i < k → other (i + 1) ≡ test (i + 1)) → FirstPlace test k r → FirstPlace other k r
+same_place test other k None same h = λ i l. same i l ∙ h i l
+same_place test other k (Some e) same h = record {
+  inside = h.inside;
+  fails = λ i l. same i (omega (arith, h.inside)) ∙ h.fails i l;
+  passes = same e h.inside ∙ h.passes;
 }
+
+-- by the marks of the arcs that lead to node t, and the sieve toward t
+pub first_by_marks : (R : Rows) (n m : ℕ) (asked : Asked) (G : Signs) (t : ℕ) {tests : Tests} {boxes : List ℤ} {masks : List ℕ} {unmarked marked : List Bool} {k : ℕ} (r : Option ℕ)
+    → Drawn mark_row k (Marked (leads_to R n m t)) unmarked marked
+    → tests ≡ tests_toward asked G.x G.y G.modules t → boxes ≡ G.boxes → masks ≡ G.masks
+    → FirstPlace (misses_by (mark_of marked) (keeps tests R.closures boxes masks)) k r → FirstPlace (misses_node R n m asked G t) k r
+unfolding misses_node
+first_by_marks R n m asked G t {tests} {boxes} {masks} {marked = marked} {k = k} r marks told lent lit h = same_place (misses_by (mark_of marked) (keeps tests R.closures boxes masks)) (misses_node R n m asked G t) k r same h
   where
-    same : (i : ℕ) → 1 ≤ i → i ≤ k
-        → misses_by (leads_to R n m t) (keeps (tests_toward asked G.x G.y G.modules t) R.closures G.boxes G.masks) i
-        ≡ misses_by (mark_of marked) (keeps tests R.closures G.boxes G.masks) i
-    same i low high = rw (marks.entries i low high, told) refl
+    same : (i : ℕ) → i < k
+        → misses_by (leads_to R n m t) (keeps (tests_toward asked G.x G.y G.modules t) R.closures G.boxes G.masks) (i + 1)
+        ≡ misses_by (mark_of marked) (keeps tests R.closures boxes masks) (i + 1)
+    same i l = rw (marks.entries (i + 1) (omega arith) (omega arith), told, lent, lit) refl

@@ -1,16 +1,16 @@
 -- The loops' steps: what one arc, and one node, adds.
 use Prim.Native.Nat.{ℕ, ◌+◌, ◌-◌, ◌*◌, ◌≤◌, ◌<◌}
-use mathlib.Core.Path.{◌≡◌, refl, sym, ap, subst, ◌∙◌}
+use mathlib.Core.Path.{◌≡◌, refl, ap, subst, ◌∙◌}
 use mathlib.Core.Bool.{Bool, true, false}
 use mathlib.Core.List.{List}
 use native.Mathlib.Omega.{arith}
-use native.Mathlib.Decide.{ℕ_discrete}
 use native.Mathlib.Numerals.{add-one}
 use lib.ListN.{length, set, get_or}
-use Rattle.walks.specs.Rows.{Rows, Sound}
-use Rattle.drawing.specs.Leads.{leads_b, leads_at, leads_to, Marked}
+use Rattle.walks.specs.Rows.{Rows, is_open, turned}
+use Rattle.settling.specs.declared.Labels.{Labels}
+use Rattle.settling.specs.Run.{labels_of}
+use Rattle.drawing.specs.Leads.{leads_b, leads_at, lengths_to, leads_to, Marked}
 use Rattle.drawing.specs.Drawn.{Kind, Row, mark_row, mark_of, Drawn, DrawnIf}
-use Rattle.drawing.specs.Missed.{BeforeFirst}
 use Rattle.drawing.specs.Gathered.{add_if, gathered, AddedOnce, AddedAll}
 use Rattle.drawing.proofs.DrawnLaws.{Puts, puts_single, drawn_old, drawn_next, drawn_stays, drawn_self, drawn_then}
 
@@ -21,19 +21,22 @@ pub leads_next : (R : Rows) (lengths : List ℕ) (j : ℕ) {t : Bool}
 unfolding leads_at
 leads_next R lengths j e = let same : j + 1 - 1 ≡ j = omega arith in rw same e
 
+-- the lengths of the labels from t in the network turned round are those to t
+pub lengths_turned : {R Q : Rows} {n m k l : ℕ} (t : ℕ) {L : Labels} → L ≡ labels_of Q (is_open Q.closures) k l t → Q ≡ turned R → k ≡ n → l ≡ m
+    → L.length ≡ lengths_to R n m t
+unfolding lengths_to
+lengths_turned t told rows nodes arcs = rw (told, rows, nodes, arcs) refl
+
 -- its mark, in a row of marks
 pub mark-next : (row : List Bool) (j : ℕ) {t : Bool} → get_or row j false ≡ t → mark_of row (j + 1) ≡ t
 mark-next row j e = let same : j + 1 - 1 ≡ j = omega arith in rw same e
 
 -- the arc e + 1: it is marked, if it leads
-pub mark_turn : (R : Rows) (lengths : List ℕ) {e : ℕ} {before now : List Bool} {mark : Bool}
-    → Drawn mark_row e (Marked (leads_at R lengths)) before now
-    → mark ≡ leads_b lengths (get_or R.tails e 0) (get_or R.heads e 0) (get_or R.weights e 0) (get_or R.closures e 0) → e < length before
-    → Drawn mark_row (e + 1) (Marked (leads_at R lengths)) before (set now e mark)
-mark_turn R lengths {e} {before} {now} {mark} drawn told room =
+pub mark_turn : (leads : ℕ → Bool) {e : ℕ} {before now : List Bool} {mark : Bool} → Drawn mark_row e (Marked leads) before now → mark ≡ leads (e + 1)
+    → e < length before → Drawn mark_row (e + 1) (Marked leads) before (set now e mark)
+mark_turn leads {e} {before} {now} {mark} drawn told room =
     let back : e + 1 - 1 ≡ e = omega arith in
-    subst (λ (i : ℕ). Drawn mark_row (e + 1) (Marked (leads_at R lengths)) before (set now i mark)) back
-    (drawn_next (puts_single false) drawn mark (omega arith) (sym (leads_next R lengths e (sym told))))
+    subst (λ (i : ℕ). Drawn mark_row (e + 1) (Marked leads) before (set now i mark)) back (drawn_next (puts_single false) drawn mark (omega arith) told)
 
 -- its entry has a node added, or stays
 module _ {K : Kind} {put : Row K → ℕ → K.Entry → Row K} (puts : Puts K put) (leads : ℕ → Bool) (add : K.Entry → K.Entry)
@@ -68,32 +71,3 @@ module _ (K : Kind) (R : Rows) (n m : ℕ) (add : ℕ → K.Entry → K.Entry) w
     drawn = λ h. drawn_then (λ e low high b d i j. j ∙ rw (i, marks.entries e low high) (gathered_next e t _)) (p.drawn h) (q.drawn h);
     kept = λ h. q.kept h ∙ p.kept h;
   }
-
--- the number e + 1 passes a test that the numbers 1..e fail; or none of 1..k passes
-module _ {test : ℕ → Bool} (k : ℕ) where
-  pub first_here : (e : ℕ) → e < k → ((i : ℕ) → 1 ≤ i → i ≤ e → test i ≡ false) → test (e + 1) ≡ true → BeforeFirst test k e
-  first_here e l h p = record { most = omega arith; fails = h; passes = λ _. p }
-
-  pub first_nowhere : ((i : ℕ) → 1 ≤ i → i ≤ k → test i ≡ false) → BeforeFirst test k k
-  first_nowhere h = record { most = omega arith; fails = h; passes = λ l. absurd (omega arith) }
-
--- what fails a test up to e, and at e + 1, fails it up to e + 1
-pub fails_more : {test : ℕ → Bool} {e : ℕ} → ((i : ℕ) → 1 ≤ i → i ≤ e → test i ≡ false) → test (e + 1) ≡ false
-    → (i : ℕ) → 1 ≤ i → i ≤ e + 1 → test i ≡ false
-fails_more {test} {e} h p i low high = elim (ℕ_discrete i (e + 1)) [
-  | yes same ↦ ap test same ∙ p
-  | no other ↦ h i low (omega arith)
-]
-
--- rows of m arcs hold the first k of them
-pub first_arcs : {n m : ℕ} {R : Rows} → Sound n m R → (k : ℕ) → k ≤ m → Sound n k R
-first_arcs s k h = record {
-  nodes_low = s.nodes_low;
-  nodes_high = s.nodes_high;
-  arcs_high = omega (arith, s.arcs_high);
-  tails_long = omega (arith, s.tails_long);
-  heads_long = omega (arith, s.heads_long);
-  weights_long = omega (arith, s.weights_long);
-  closures_long = omega (arith, s.closures_long);
-  arcs = λ e low high. s.arcs e low (omega arith);
-}

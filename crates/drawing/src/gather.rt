@@ -1,7 +1,9 @@
-// Boxes and masks emptied, and made of the nodes of their S(e): boxes of the places, masks of the modules.
+// Boxes and masks emptied, and made of the nodes of their S(e): boxes of the places, masks of the modules. A box stands in four
+// places of its row and a mask in one, so each kind has its own loop.
 ghost use Rattle.std.specs.Prelude.{◌≡◌, true, ◌*◌, ◌≤◌, length};
 ghost use Rattle.geometry.specs.Box.{mark};
-ghost use Rattle.walks.specs.Rows.{rows, at, Sound};
+ghost use Rattle.walks.specs.Rows.{at};
+ghost use Rattle.walks.specs.Judged.{rows_in};
 ghost use Rattle.passing.specs.Signs.{signs};
 ghost use Rattle.passing.specs.Asking.{Lent};
 ghost use Rattle.drawing.specs.Leads.{leads_to};
@@ -9,8 +11,10 @@ ghost use Rattle.drawing.specs.Drawn.{DrawnIf, box_row, mask_row, mark_of};
 ghost use Rattle.drawing.specs.Gathered.{add_place, add_module, Emptied, AddedOnce, AddedAll};
 
 use crate::mark::mark_toward;
-use frontier::chain::link;
+use frontier::chain::Chain;
+use passing::Nodes;
 use rules::Asked;
+use walks::tracks::Tracks;
 
 // Each arc's box becomes the mark, which holds nothing, where boxes are asked.
 pub fn empty_boxes(asked: bool, m: usize, boxes: &mut [i32])
@@ -20,10 +24,8 @@ pub fn empty_boxes(asked: bool, m: usize, boxes: &mut [i32])
     if !asked {
         return;
     }
-    let mut e: usize = 0;
-    while e < m {
+    for e in 0..m {
         geometry::empty_box(boxes, e + 1);
-        e += 1;
     }
 }
 
@@ -35,37 +37,30 @@ pub fn empty_masks(asked: bool, m: usize, masks: &mut [u32])
     if !asked {
         return;
     }
-    let mut e: usize = 0;
-    while e < m {
-        masks[e] = 0;
-        e += 1;
-    }
+    masks[..m].fill(0);
 }
 
 // Each marked arc's box takes in the place of node t, where boxes are asked.
 fn add_place(
     asked: bool,
     marked: &[bool; 2048],
-    t: usize,
-    x: &[i32],
-    y: &[i32],
     m: usize,
+    nodes: Nodes,
+    t: usize,
     boxes: &mut [i32],
 )
-    requires { (m ≤ 2048) × (1 ≤ t) × (asked ≡ true → (t ≤ length x.now) × (t ≤ length y.now) × (4 * m ≤ length boxes.old)) }
-    ensures { DrawnIf asked box_row m (AddedOnce (mark_of marked.now) (add_place x.now y.now t)) boxes.old boxes.new }
+    requires { (m ≤ 2048) × (1 ≤ t) × (asked ≡ true → (t ≤ length nodes.x.now) × (t ≤ length nodes.y.now) × (4 * m ≤ length boxes.old)) }
+    ensures { DrawnIf asked box_row m (AddedOnce (mark_of marked.now) (add_place nodes.entry.x.now nodes.entry.y.now t)) boxes.old boxes.new }
 {
     if !asked {
         return;
     }
-    let px = x[t - 1];
-    let py = y[t - 1];
-    let mut e: usize = 0;
-    while e < m {
+    let x = nodes.x[t - 1];
+    let y = nodes.y[t - 1];
+    for e in 0..m {
         if marked[e] {
-            geometry::grow_box(boxes, e + 1, px, py);
+            geometry::grow_box(boxes, e + 1, x, y);
         }
-        e += 1;
     }
 }
 
@@ -73,69 +68,39 @@ fn add_place(
 fn add_module(
     asked: bool,
     marked: &[bool; 2048],
-    t: usize,
-    modules: &[u32],
     m: usize,
+    nodes: Nodes,
+    t: usize,
     masks: &mut [u32],
 )
-    requires { (m ≤ 2048) × (1 ≤ t) × (asked ≡ true → (t ≤ length modules.now) × (m ≤ length masks.old) × (1 ≤ at modules.now t) × (at modules.now t ≤ 32)) }
-    ensures { DrawnIf asked mask_row m (AddedOnce (mark_of marked.now) (add_module modules.now t)) masks.old masks.new }
+    requires { let modules = nodes.modules.now in
+        (m ≤ 2048) × (1 ≤ t) × (asked ≡ true → (t ≤ length modules) × (m ≤ length masks.old) × (1 ≤ at modules t) × (at modules t ≤ 32)) }
+    ensures { DrawnIf asked mask_row m (AddedOnce (mark_of marked.now) (add_module nodes.entry.modules.now t)) masks.old masks.new }
 {
     if !asked {
         return;
     }
-    let j = modules[t - 1];
-    let mut e: usize = 0;
-    while e < m {
+    let j = nodes.modules[t - 1];
+    for e in 0..m {
         if marked[e] {
             masks[e] = masks::with_module(masks[e], j);
         }
-        e += 1;
     }
 }
 
-// What is asked is made of the nodes of each S(e): one labelling for each node t of 1..n.
-pub fn gather_all(
-    asked: Asked,
-    n: usize,
-    m: usize,
-    tails: &[u32],
-    heads: &[u32],
-    weights: &[u32],
-    closures: &[u8],
-    x: &[i32],
-    y: &[i32],
-    boxes: &mut [i32],
-    modules: &[u32],
-    masks: &mut [u32],
-)
-    requires { Sound n m (rows tails.now heads.now weights.now closures.now) × Lent asked n m (signs x.now y.now boxes.old modules.now masks.old) }
-    ensures boxes_drawn { DrawnIf asked.boxes box_row m (AddedAll (leads_to (rows tails.now heads.now weights.now closures.now) n m) (add_place x.now y.now) n) boxes.old boxes.new }
-    ensures masks_drawn { DrawnIf asked.masks mask_row m (AddedAll (leads_to (rows tails.now heads.now weights.now closures.now) n m) (add_module modules.now) n) masks.old masks.new }
+// What is asked is made of the nodes of each S(e): one labelling for each node t.
+pub fn gather_all(asked: Asked, tracks: Tracks, nodes: Nodes, boxes: &mut [i32], masks: &mut [u32])
+    requires { Lent asked tracks.n tracks.m (signs nodes.x.now nodes.y.now boxes.old nodes.modules.now masks.old) }
+    ensures boxes_drawn { let leads = leads_to (rows_in tracks.entry) tracks.entry.n tracks.entry.m in
+        DrawnIf asked.boxes box_row tracks.entry.m (AddedAll leads (add_place nodes.entry.x.now nodes.entry.y.now) tracks.entry.n) boxes.old boxes.new }
+    ensures masks_drawn { let leads = leads_to (rows_in tracks.entry) tracks.entry.n tracks.entry.m in
+        DrawnIf asked.masks mask_row tracks.entry.m (AddedAll leads (add_module nodes.entry.modules.now) tracks.entry.n) masks.old masks.new }
 {
-    let by_boxes = asked.boxes;
-    let by_masks = asked.masks;
-    let mut first = [m as u32; 512];
-    let mut next = [0u32; 2048];
-    link(m, heads, &mut first, &mut next);
+    let chain = Chain::link(tracks.m, tracks.heads);
     let mut marked = [false; 2048];
-    let mut t: usize = 0;
-    while t < n {
-        mark_toward(
-            t + 1,
-            m,
-            n,
-            m,
-            tails,
-            heads,
-            weights,
-            closures,
-            &first,
-            &next,
-            &mut marked,
-        );
-        add_place(by_boxes, &marked, t + 1, x, y, m, boxes);
-        add_module(by_masks, &marked, t + 1, modules, m, masks);
-        t += 1;
+    for t in 0..tracks.n {
+        mark_toward(t + 1, tracks.m, tracks, &chain, &mut marked);
+        add_place(asked.boxes, &marked, tracks.m, nodes, t + 1, boxes);
+        add_module(asked.masks, &marked, tracks.m, nodes, t + 1, masks);
     }
 }

@@ -1,19 +1,18 @@
 -- What a file holds, and what reading it answers.
-use Rattle.std.specs.Prelude.{ℕ, ◌≤◌, List, take}
-use Rattle.files.specs.declared.File.{File}
-use Rattle.files.specs.declared.File.TheVariants.{Bytes, NoFile}
+use Rattle.std.specs.Prelude.{ℕ, ◌≤◌, List, Option, Some, None}
+use Rattle.std.proofs.Common.{Bor}
 
 -- what a file holds: a text, or nothing where it cannot be read
 pub data Held : Type 0 where
   text : List ℕ → Held
   unread : Held
 
--- what was read of a file into a text
-abbrev pub held_in : List ℕ → File → Held
-held_in bytes (Bytes n) = text (take n bytes)
-held_in bytes NoFile = unread
+-- what the bytes that were read of a file say it holds
+abbrev pub held_of : Option (Bor (List ℕ)) → Held
+held_of (Some bytes) = text bytes.now
+held_of None = unread
 
 -- the bytes that were read lie within a text of so many places
-abbrev pub Within : ℕ → File → Type 0
-Within places (Bytes n) = n ≤ places
-Within places NoFile = Unit
+abbrev pub Within : ℕ → Option ℕ → Type 0
+Within places (Some n) = n ≤ places
+Within places None = Unit

@@ -8,50 +8,28 @@ use std::io::Read;
 use std::rt::Files;
 use std::{fs, str};
 
-// How many bytes of a file were read, or that it cannot be read.
-#[derive(Clone, Copy)]
-pub enum File {
-    Bytes(usize),
-    NoFile,
-}
-
-// Reads once into a text; 0 bytes are the file's end.
-fn read_some(from: &mut impl Read, text: &mut [u8]) -> File
-    ensures { Within (length text.new) result }
-{
-    let Ok(n) = from.read(text) else {
-        return File::NoFile;
-    };
-    File::Bytes(n)
-}
-
-// Reads until the file ends or the text is full.
-fn read_on(from: &mut impl Read, text: &mut [u8]) -> File
+// Reads until the file ends or the text is full, and answers how many bytes were read. A read of 0 bytes is the file's end.
+fn read_on(from: &mut impl Read, text: &mut [u8]) -> Option<usize>
     ensures { Within (length text.new) result }
 {
     let mut at = 0;
+    // each read tells how far it came, so no range counts the turns
     while at < text.len() {
-        let some = read_some(from, &mut text[at..]);
-        let File::Bytes(n) = some else {
-            return File::NoFile;
-        };
+        let n = from.read(&mut text[at..]).ok()?;
         if n == 0 {
-            return File::Bytes(at);
+            break;
         }
         at += n;
     }
-    File::Bytes(at)
+    Some(at)
 }
 
-// Reads a file's first bytes, as many as the text has places for. A path that is not UTF-8 names no file.
-pub fn read_file(rt: &impl Files, path: &[u8], text: &mut [u8]) -> File
+// Reads a file's first bytes, as many as the text has places for, and answers how many were read; nothing where the file cannot
+// be read. A path that is not UTF-8 names no file.
+pub fn read_file(rt: &impl Files, path: &[u8], text: &mut [u8]) -> Option<usize>
     ensures { Within (length text.new) result }
 {
-    let Ok(name) = str::from_utf8(path) else {
-        return File::NoFile;
-    };
-    let Ok(mut file) = fs::open(rt, name) else {
-        return File::NoFile;
-    };
+    let name = str::from_utf8(path).ok()?;
+    let mut file = fs::open(rt, name).ok()?;
     read_on(&mut file, text)
 }

@@ -2,13 +2,13 @@
 use Prim.Native.Nat.{ℕ, zero, suc, ◌+◌, ◌*◌, ◌-◌, ◌/◌, ◌<◌, ◌≤◌}
 use native.Mathlib.Omega.{arith}
 use native.Mathlib.Decide.{ℕ_discrete, dec_le}
-use mathlib.Core.Path.{◌≡◌, ap, ◌∙◌}
+use mathlib.Core.Path.{◌≡◌, refl, ap, ◌∙◌}
 use mathlib.Core.Logic.{inl, inr}
 use mathlib.Core.List.{List}
 use lib.ListN.{length-replicate, get_or, get_or-replicate, replicate}
 use lib.Seq.{get_or-set_same, get_or-set_other}
 use Rattle.frontier.specs.Tree.{far, Mended, Rekeyed}
-use Rattle.frontier.proofs.Keys.{least_is, least_no}
+use Rattle.frontier.proofs.Keys.{min_one}
 
 -- the leaf of which a place has its key
 pub record Leaf (t : List ℕ) (x : ℕ) : Type 0 where
@@ -24,14 +24,13 @@ module _ {t : List ℕ} (mended : Mended t) where
     | no e ↦
         let q = p / 2 in
         let above = root_low f q (omega arith) (omega arith) (omega arith) in
-        let l = least_is (get_or t (2 * q) 0) (get_or t (2 * q + 1) 0) in
         let m = mended.lesser q (omega arith) (omega arith) in
         elim (ℕ_discrete p (2 * q)) [
-          | yes s ↦ let z = ap (λ (x : ℕ). get_or t x 0) s in omega (arith, above, l.0, m, z)
+          | yes s ↦ let z = ap (λ (x : ℕ). get_or t x 0) s in omega (arith, above, m, z)
           | no s ↦
               let s' : p ≡ 2 * q + 1 = omega arith in
               let z = ap (λ (x : ℕ). get_or t x 0) s' in
-              omega (arith, above, l.1, m, z)
+              omega (arith, above, m, z)
         ]
   ]
 
@@ -41,7 +40,7 @@ module _ {t : List ℕ} (mended : Mended t) where
     | yes e ↦ let z : i ≡ 512 + (i - 512) = omega arith in record { place = i - 512; high = omega arith; same = ap (λ (x : ℕ). get_or t x 0) z }
     | no e ↦
         let m = mended.lesser i one (omega arith) in
-        elim (least_is (get_or t (2 * i) 0) (get_or t (2 * i + 1) 0)).2 [
+        elim (min_one (get_or t (2 * i) 0) (get_or t (2 * i + 1) 0)) [
           | inl q ↦ let r = below f (2 * i) (omega arith) (omega arith) (omega arith) in record { place = r.place; high = r.high; same = m ∙ (q ∙ r.same) }
           | inr q ↦ let r = below f (2 * i + 1) (omega arith) (omega arith) (omega arith) in record { place = r.place; high = r.high; same = m ∙ (q ∙ r.same) }
         ]
@@ -66,5 +65,5 @@ pub mended_start : Mended (replicate 1_024 far)
 mended_start = record {
   long = length-replicate 1_024 far;
   lesser = λ i low high.
-      rw (get_or-replicate 1_024 i far 0 (omega arith), get_or-replicate 1_024 (2 * i) far 0 (omega arith), get_or-replicate 1_024 (2 * i + 1) far 0 (omega arith)) (least_no far far (omega arith));
+      rw (get_or-replicate 1_024 i far 0 (omega arith), get_or-replicate 1_024 (2 * i) far 0 (omega arith), get_or-replicate 1_024 (2 * i + 1) far 0 (omega arith)) refl;
 }

@@ -7,8 +7,9 @@ use mathlib.Core.Logic.{◌≢◌, ◌⊎◌, inl, inr}
 use mathlib.Core.List.{List}
 use lib.ListN.{get_or, set}
 use lib.Seq.{get_or-set_same, get_or-set_other}
-use Rattle.frontier.specs.Tree.{least, Mended}
-use Rattle.frontier.proofs.Keys.{least_is, least_eq}
+use Rattle.std.specs.Prelude.{min}
+use Rattle.frontier.specs.Tree.{Mended}
+use Rattle.frontier.proofs.Keys.{min_one, min_eq}
 use Rattle.frontier.proofs.Mending.{But, but_leaf, but_stop, but_turn}
 
 -- the place h above i, whose key became x and was no less: h is no greater than i's fellow, and no less than x or as its fellow
@@ -22,14 +23,13 @@ pub record Lowered (t : List ℕ) (i x : ℕ) : Type 0 where
   pub own : get_or t i 0 ≡ x
   pub above : 1 < i → Above t i x (i / 2)
 
-above_set : (t : List ℕ) (i x h : ℕ) → 1 ≤ h → h ≢ i → get_or t h 0 ≡ least (get_or t (2 * h) 0) (get_or t (2 * h + 1) 0) → x ≤ get_or t i 0 → Above (set t i x) i x h
+above_set : (t : List ℕ) (i x h : ℕ) → 1 ≤ h → h ≢ i → get_or t h 0 ≡ min (get_or t (2 * h) 0) (get_or t (2 * h + 1) 0) → x ≤ get_or t i 0 → Above (set t i x) i x h
 above_set t i x h one n e low =
-    let l = least_is (get_or t (2 * h) 0) (get_or t (2 * h + 1) 0) in
     let z : get_or (set t i x) h 0 ≡ get_or t h 0 = get_or-set_other t i h x 0 n in
     record {
-      left = λ q. let a = get_or-set_other t i (2 * h) x 0 (λ w. q (sym w)) in omega (arith, z, a, l.0, e);
-      right = λ q. let a = get_or-set_other t i (2 * h + 1) x 0 (λ w. q (sym w)) in omega (arith, z, a, l.1, e);
-      some = elim l.2 [
+      left = λ q. let a = get_or-set_other t i (2 * h) x 0 (λ w. q (sym w)) in omega (arith, z, a, e);
+      right = λ q. let a = get_or-set_other t i (2 * h + 1) x 0 (λ w. q (sym w)) in omega (arith, z, a, e);
+      some = elim (min_one (get_or t (2 * h) 0) (get_or t (2 * h + 1) 0)) [
         | inl f ↦ elim (ℕ_discrete i (2 * h)) [
           | yes q ↦ inl (let y = ap (λ (w : ℕ). get_or t w 0) q in omega (arith, z, e, f, y, low))
           | no q ↦ inr (inl (q, (let a = get_or-set_other t i (2 * h) x 0 (λ w. q (sym w)) in omega (arith, z, e, f, a))))
@@ -74,7 +74,7 @@ module _ {t : List ℕ} {i x : ℕ} (h : Lowered t i x) (low : 1 < i) (high : i 
         | inl p ↦ own_side (get_or t a 0) (omega arith)
         | inr p ↦ elim p [ inl q ↦ inl q.1 | inr q ↦ inr q.1 ]
       ] in
-      but_stop h.but low high (get_or t a 0) (least_eq _ _ l r s) refl
+      but_stop h.but low high (get_or t a 0) (min_eq _ _ l r s) refl
 
   pub lowered_turn : x < get_or t (i / 2) 0 → Lowered (set t (i / 2) x) (i / 2) x
   lowered_turn lt =
@@ -82,7 +82,7 @@ module _ {t : List ℕ} {i x : ℕ} (h : Lowered t i x) (low : 1 < i) (high : i 
       let l : x ≤ get_or t (2 * a) 0 = elim (below_left) [ inl p ↦ omega arith | inr p ↦ omega arith ] in
       let r : x ≤ get_or t (2 * a + 1) 0 = elim below_right [ inl p ↦ omega arith | inr p ↦ omega arith ] in
       record {
-        but = but_turn h.but low high x (least_eq _ _ l r (own_side x refl));
+        but = but_turn h.but low high x (min_eq _ _ l r (own_side x refl));
         own = get_or-set_same t a x 0 (omega (arith, h.but.long));
         above = λ one. above_set t a x (a / 2) (omega arith) (λ e. omega arith) (h.but.lesser (a / 2) (omega arith) (omega arith) (λ e. omega arith)) (omega arith);
       }

@@ -7,15 +7,16 @@ use mathlib.Core.Logic.{◌≢◌}
 use mathlib.Core.List.{List}
 use lib.ListN.{length, length-set, get_or, set}
 use lib.Seq.{get_or-set_same, get_or-set_other}
-use Rattle.frontier.specs.Tree.{least, Mended, SameLeaves}
+use Rattle.std.specs.Prelude.{min}
+use Rattle.frontier.specs.Tree.{Mended, SameLeaves}
 
 -- mended, but perhaps not at the place above i
 pub record But (t : List ℕ) (i : ℕ) : Type 0 where
   pub long : length t ≡ 1_024
-  pub lesser : (p : ℕ) → 1 ≤ p → p < 512 → p ≢ i / 2 → get_or t p 0 ≡ least (get_or t (2 * p) 0) (get_or t (2 * p + 1) 0)
+  pub lesser : (p : ℕ) → 1 ≤ p → p < 512 → p ≢ i / 2 → get_or t p 0 ≡ min (get_or t (2 * p) 0) (get_or t (2 * p + 1) 0)
 
-kept : (t : List ℕ) (i x p : ℕ) → p ≢ i → 2 * p ≢ i → 2 * p + 1 ≢ i → get_or t p 0 ≡ least (get_or t (2 * p) 0) (get_or t (2 * p + 1) 0)
-    → get_or (set t i x) p 0 ≡ least (get_or (set t i x) (2 * p) 0) (get_or (set t i x) (2 * p + 1) 0)
+kept : (t : List ℕ) (i x p : ℕ) → p ≢ i → 2 * p ≢ i → 2 * p + 1 ≢ i → get_or t p 0 ≡ min (get_or t (2 * p) 0) (get_or t (2 * p + 1) 0)
+    → get_or (set t i x) p 0 ≡ min (get_or (set t i x) (2 * p) 0) (get_or (set t i x) (2 * p + 1) 0)
 kept t i x p a b c h = rw (get_or-set_other t i p x 0 a, get_or-set_other t i (2 * p) x 0 b, get_or-set_other t i (2 * p + 1) x 0 c) h
 
 -- a leaf is changed
@@ -29,7 +30,7 @@ module _ {t : List ℕ} {i : ℕ} (h : But t i) where
   pub but_done : i ≤ 1 → Mended t
   but_done low = record { long = h.long; lesser = λ p one up. h.lesser p one up (λ e. omega arith) }
 
-  module _ (low : 1 < i) (high : i < 1_024) (y : ℕ) (lesser : y ≡ least (get_or t (2 * (i / 2)) 0) (get_or t (2 * (i / 2) + 1) 0)) where
+  module _ (low : 1 < i) (high : i < 1_024) (y : ℕ) (lesser : y ≡ min (get_or t (2 * (i / 2)) 0) (get_or t (2 * (i / 2) + 1) 0)) where
     -- the place above i has the lesser already
     pub but_stop : get_or t (i / 2) 0 ≡ y → Mended t
     but_stop e = record {

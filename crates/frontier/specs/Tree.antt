@@ -1,7 +1,5 @@
 -- A tree of keys. The two places below place i are 2 * i and 2 * i + 1; leaf v, for node v + 1, stands at place 512 + v.
-use Rattle.std.specs.Prelude.{ℕ, ◌+◌, ◌*◌, ◌%◌, ◌<◌, ◌≤◌, cond, ◌≡◌, List, length, get_or, set, ltb, leb}
-use Rattle.frontier.specs.declared.Pick.{Pick}
-use Rattle.frontier.specs.declared.Pick.TheVariants.{Node, Nothing}
+use Rattle.std.specs.Prelude.{ℕ, ◌+◌, ◌*◌, ◌%◌, ◌<◌, ◌≤◌, cond, ◌≡◌, List, length, get_or, set, leb, min, Option, Some, None}
 
 -- the key of the label (l, k) at leaf v: keys are ordered by length, then by arc count, then by node
 abbrev pub key_of : ℕ → ℕ → ℕ → ℕ
@@ -12,16 +10,13 @@ abbrev pub far : ℕ
 far = 4_503_599_626_321_920
 
 -- the node of a key
-unfoldable pub pick_of : ℕ → Pick
-pick_of x = cond (leb far x) Nothing (Node (x % 1_024))
-
-unfoldable pub least : ℕ → ℕ → ℕ
-least a b = cond (ltb b a) b a
+unfoldable pub pick_of : ℕ → Option ℕ
+pick_of x = cond (leb far x) None (Some (x % 1_024))
 
 -- each place above the leaves has the lesser of the two keys below it
 pub record Mended (t : List ℕ) : Type 0 where
   pub long : length t ≡ 1_024
-  pub lesser : (i : ℕ) → 1 ≤ i → i < 512 → get_or t i 0 ≡ least (get_or t (2 * i) 0) (get_or t (2 * i + 1) 0)
+  pub lesser : (i : ℕ) → 1 ≤ i → i < 512 → get_or t i 0 ≡ min (get_or t (2 * i) 0) (get_or t (2 * i + 1) 0)
 
 pub record SameLeaves (t t' : List ℕ) : Type 0 where
   pub leaf : (i : ℕ) → 512 ≤ i → get_or t' i 0 ≡ get_or t i 0

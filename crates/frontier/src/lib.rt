@@ -3,10 +3,3 @@
 
 pub mod chain;
 pub mod tree;
-
-// The node of the least key, or that no node has one.
-#[derive(Drop)]
-pub enum Pick {
-    Node(usize),
-    Nothing,
-}

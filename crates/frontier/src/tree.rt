@@ -1,9 +1,7 @@
 // A tree of keys: 512 leaves, and above them each place has the lesser of the two keys below it, so that place 1 has
 // the least of all.
 ghost use Rattle.std.specs.Prelude.{◌≡◌, ◌+◌, ◌<◌, ◌≤◌, get_or};
-ghost use Rattle.frontier.specs.Tree.{least, key_of, pick_of, Mended, Rekeyed};
-
-use crate::Pick;
+ghost use Rattle.frontier.specs.Tree.{key_of, pick_of, Mended, Rekeyed};
 
 // The key of a leaf without a node: 4294967295 * 2^20. The key of every label is less.
 pub const FAR: u64 = 4503599626321920;
@@ -16,15 +14,6 @@ pub fn key(l: u32, k: u32, at: usize) -> u64
     l as u64 * 1048576 + k as u64 * 1024 + (at as u64 + 1)
 }
 
-fn lesser(a: u64, b: u64) -> u64
-    ensures { result ≡ least a b }
-{
-    if b < a {
-        return b;
-    }
-    a
-}
-
 // Gives leaf `at` any key, and mends the places above it until one has the lesser key already.
 pub fn put(tree: &mut [u64; 1024], at: usize, x: u64)
     requires { (at < 512) × Mended tree.old }
@@ -32,9 +21,10 @@ pub fn put(tree: &mut [u64; 1024], at: usize, x: u64)
 {
     let mut i = 512 + at;
     tree[i] = x;
+    // the place above has half the number, so no range counts the turns
     while 1 < i {
         i = i / 2;
-        let y = lesser(tree[2 * i], tree[2 * i + 1]);
+        let y = tree[2 * i].min(tree[2 * i + 1]);
         if tree[i] == y {
             return;
         }
@@ -49,6 +39,7 @@ pub fn lower(tree: &mut [u64; 1024], at: usize, x: u64)
 {
     let mut i = 512 + at;
     tree[i] = x;
+    // the place above has half the number, so no range counts the turns
     while 1 < i {
         i = i / 2;
         if tree[i] <= x {
@@ -58,13 +49,13 @@ pub fn lower(tree: &mut [u64; 1024], at: usize, x: u64)
     }
 }
 
-// The node of the least key.
-pub fn nearest(tree: &[u64; 1024]) -> Pick
+// The node of the least key, if any has one.
+pub fn nearest(tree: &[u64; 1024]) -> Option<usize>
     ensures { result ≡ pick_of (get_or tree.now 1 0) }
 {
     let x = tree[1];
     if FAR <= x {
-        return Pick::Nothing;
+        return None;
     }
-    Pick::Node((x % 1024) as usize)
+    Some((x % 1024) as usize)
 }

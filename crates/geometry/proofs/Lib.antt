@@ -1,5 +1,4 @@
 pub mod Order
-pub mod Signed
 pub mod SmallestLaws
 pub mod Tests
 pub mod MarkLaws

@@ -1,7 +1,9 @@
 -- The order on ℤ, where `lib.Signed` stops: it is transitive, antisymmetric and total, and `smaller` and `larger` are its meet and join.
-use Rattle.std.proofs.Common.{◌≡◌, Bool, true, false, cond, not, T, ℤ, pos, negsuc, ◌≤ℤ◌, ap, le_trans, le_of_lt, le_antisymm, le→leb, leb→le}
+use Rattle.std.proofs.Common.{◌≡◌, ℕ, ltb, leb, arith, Bool, true, false, cond, not, T, ℤ, pos, negsuc, ◌≤ℤ◌, refl, ap, le_trans, le_of_lt, le_antisymm, le→leb, leb→le}
+use Rattle.std.proofs.lemmas.Bool.Decides.{nat_tests}
 use lib.Dec.{nleb→lt}
-use lib.Signed.{le_z, ≤ℤ_refl}
+use lib.Signed.{le_z, lt_z, ≤ℤ_refl}
+use Rattle.std.specs.Int.{int_min, int_max}
 use Rattle.geometry.specs.Hull.{smaller, larger}
 
 trans' : (a b c : ℤ) → T (le_z a b) → T (le_z b c) → T (le_z a c)
@@ -65,3 +67,26 @@ smaller_both P {a} {b} p q = pick (le_z a b) a b P (λ t. p) (λ t. q)
 pub larger_both : (P : ℤ → Type 0) {a b : ℤ} → P a → P b → P (larger a b)
 unfolding larger
 larger_both P {a} {b} p q = pick (le_z a b) b a P (λ t. q) (λ t. p)
+
+-- ---- std's least and greatest of two numbers
+
+less_not : (m n : ℕ) → ltb n m ≡ not (leb m n)
+less_not m n = grind (arith, nat_tests)
+
+below_not : (a b : ℤ) → lt_z b a ≡ not (le_z a b)
+below_not (pos a) (pos b) = less_not a b
+below_not (pos a) (negsuc b) = refl
+below_not (negsuc a) (pos b) = refl
+below_not (negsuc a) (negsuc b) = less_not b a
+
+turned : (t : Bool) (a b : ℤ) → cond (not t) b a ≡ cond t a b
+turned true a b = refl
+turned false a b = refl
+
+pub min_smaller : (a b : ℤ) → int_min a b ≡ smaller a b
+unfolding smaller
+min_smaller a b = rw (below_not a b) (turned (le_z a b) a b)
+
+pub max_larger : (a b : ℤ) → int_max a b ≡ larger a b
+unfolding larger
+max_larger a b = rw (below_not a b) (turned (le_z a b) b a)

@@ -71,6 +71,19 @@ axis from to z p q s ff ft fz fp fq less width =
     rw (shifted_order from z ff fz, shifted_order z to fz ft)
     (wraps (shifted from) (shifted to) (shifted z) p q s.across s.below (shifted_fits z fz) fp fq less width)
 
+-- a difference that wraps, and what was taken away, are the number again
+wraps_back : (a b : ℕ) → a < 2 ^ 32 → b < 2 ^ 32 → ((a + (2 ^ 32 - b)) % 2 ^ 32 + b) % 2 ^ 32 ≡ a
+wraps_back a b h k = omega arith
+
+-- so the test is as the code makes it
+pub axis_wraps : (from to z : ℤ) → Span from to → mag from < 2 ^ 31 → mag to < 2 ^ 31 → mag z < 2 ^ 31
+    → ltb ((shifted z + (2 ^ 32 - shifted from)) % 2 ^ 32) ((shifted to + 1 + (2 ^ 32 - shifted from)) % 2 ^ 32) ≡ le_z from z && le_z z to
+axis_wraps from to z s ff ft fz =
+    let start = shifted_fits from ff in
+    axis from to z _ _ s ff ft fz (omega arith) (omega arith)
+    (wraps_back (shifted z) (shifted from) (shifted_fits z fz) start)
+    (wraps_back (shifted to + 1) (shifted from) s.below start)
+
 -- ---- The two axes of a box
 
 within_small : (z : ℤ) → Within z → mag z < 2 ^ 31

@@ -5,24 +5,24 @@ use mathlib.Core.Logic.{◌⊎◌, inl, inr}
 use mathlib.Core.List.{List, [], ◌∷◌, ◌++◌, append_assoc, append-nil}
 use mathlib.Core.Bool.{Bool, true, false}
 use native.Mathlib.Decide.{dec_le}
+use native.Mathlib.Nat.{add-zero}
 use native.Mathlib.Omega.{arith}
 use lib.ListN.{length, set, get_or, length-append, length-set}
 use lib.Seq.{set_out}
-use Rattle.pages.specs.Page.{written}
-use Rattle.pages.proofs.PageLaws.{written_both}
-use Rattle.hearing.specs.Hearing.{bytes_from, ahead_of, Hears, HeardLine, Follows}
-use Rattle.hearing.specs.declared.Input.{Input}
-use Rattle.hearing.specs.declared.Next.TheVariants.{Byte}
+use Rattle.hearing.specs.Hearing.{bytes_from, written, Hears, HeardLine}
 
 -- ---- what is ahead
-pub used_up : (chunk : List ℕ) (input : Input) → input.end ≤ input.at → ahead_of chunk input ≡ []
-unfolding ahead_of bytes_from
-used_up chunk input h = let e : input.end - input.at ≡ 0 = omega arith in rw e
+pub none_ahead : (chunk : List ℕ) (at end : ℕ) → end ≤ at → bytes_from chunk at (end - at) ≡ []
+unfolding bytes_from
+none_ahead chunk at end h = let e : end - at ≡ 0 = omega arith in rw e
 
-pub next_ahead : (chunk : List ℕ) (at end : ℕ) → at < end
-    → ahead_of chunk (record { at = at; end = end }) ≡ get_or chunk at 0 ∷ ahead_of chunk (record { at = at + 1; end = end })
-unfolding ahead_of bytes_from
+pub next_ahead : (chunk : List ℕ) (at end : ℕ) → at < end → bytes_from chunk at (end - at) ≡ get_or chunk at 0 ∷ bytes_from chunk (at + 1) (end - (at + 1))
+unfolding bytes_from
 next_ahead chunk at end h = let e : end - at ≡ suc (end - (at + 1)) = omega arith in rw e
+
+-- all of a chunk is ahead
+pub just_read : (chunk : List ℕ) (end : ℕ) {chunk' ahead : List ℕ} {end' : ℕ} → chunk' ≡ chunk → end' ≡ end → bytes_from chunk 0 (end - 0) ≡ ahead → bytes_from chunk' 0 end' ≡ ahead
+just_read chunk end e f h = let z : end - 0 ≡ end = omega arith in rw (e, f) (rw z at h)
 
 -- ---- a line in what is ahead
 abbrev pub NoEnd : List ℕ → Type 0
@@ -38,52 +38,52 @@ heard_ahead (b ∷ line) n Hears.line_end = absurd (n.0 refl)
 heard_ahead (b ∷ line) n (Hears.byte other h) = let x = heard_ahead line n.1 h in (ap (λ (l : List ℕ). b ∷ l) x.0, x.1, x.2)
 
 -- ---- hearing, byte by byte
--- so much of a line was heard, and `ahead` is ahead of the rest
-pub record Hearing (ahead₀ before line ahead : List ℕ) (k left : ℕ) : Type 0 where
+
+-- a line after a line
+written_both : (a b room : List ℕ) (at : ℕ) → written room at (a ++ b) ≡ written (written room at a) (at + length a) b
+unfolding written
+written_both [] b room at = rw (add-zero at)
+written_both (c ∷ a) b room at = let e : at + 1 + length a ≡ at + suc (length a) = omega arith in rw (written_both a b (set room at c) (at + 1), e)
+
+-- so much of a line was heard, in as many turns, and `ahead` is ahead of the rest
+pub record Hearing (ahead₀ before line ahead : List ℕ) (k turns : ℕ) : Type 0 where
   pub heard : List ℕ
   pub on : (l rest : List ℕ) (ended : Bool) → Hears ahead l ended rest → Hears ahead₀ (heard ++ l) ended rest
   pub kept : line ≡ written before 0 heard
   pub long : length line ≡ length before
   pub count : k ≡ min (length heard) (length before + 1)
-  pub turns : left + length heard ≡ 18446744073709551615
+  pub each : length heard ≡ turns
 
-pub hearing_none : (ahead line : List ℕ) → Hearing ahead line line ahead 0 18446744073709551615
+pub hearing_none : (ahead line : List ℕ) → Hearing ahead line line ahead 0 0
 unfolding written
-hearing_none ahead line = record { heard = []; on = λ l rest ended h. h; kept = refl; long = refl; count = omega arith; turns = omega arith }
+hearing_none ahead line = record { heard = []; on = λ l rest ended h. h; kept = refl; long = refl; count = omega arith; each = refl }
 
--- what a read ended in
-module _ (ahead₀ before line chunk chunk' : List ℕ) (input : Input) (k left : ℕ) (g : Hearing ahead₀ before line (ahead_of chunk input) k left) where
-  ended_as : (l rest : List ℕ) (ended : Bool) → Hears ahead₀ (g.heard ++ []) ended rest → HeardLine ahead₀ before line k ended rest
-  ended_as l rest ended h = record {
+module _ (ahead₀ before line ahead : List ℕ) (k turns : ℕ) (g : Hearing ahead₀ before line ahead k turns) where
+  ended_as : (rest : List ℕ) (ended : Bool) → Hears ahead [] ended rest → HeardLine ahead₀ before line k ended rest
+  ended_as rest ended h = record {
     line = g.heard;
-    hears = λ _. subst (λ (x : List ℕ). Hears ahead₀ x ended rest) (append-nil g.heard) h;
+    hears = λ _. subst (λ (x : List ℕ). Hears ahead₀ x ended rest) (append-nil g.heard) (g.on [] rest ended h);
     kept = g.kept;
     count = g.count;
   }
 
-  pub heard_over : input.end ≤ input.at → HeardLine ahead₀ before line k true (ahead_of chunk' input)
-  heard_over h =
-      let none = subst (λ (a : List ℕ). Hears a [] true []) (sym (used_up chunk input h)) Hears.over in
-      rw (used_up chunk' input h) (ended_as [] [] true (g.on [] [] true none))
-
-  pub heard_too_long : left ≤ 0 → HeardLine ahead₀ before line k true (ahead_of chunk input)
-  heard_too_long h = record { line = g.heard; hears = λ few. absurd (omega (arith, g.turns)); kept = g.kept; count = g.count }
+  -- what a read ended in
+  pub heard_over : {rest : List ℕ} → ahead ≡ [] → rest ≡ [] → HeardLine ahead₀ before line k true rest
+  heard_over e f = rw f (ended_as [] true (rw e Hears.over))
 
   -- the next byte
-  module _ (b : ℕ) (more : Input) (f : Follows chunk input chunk' (Byte b more)) where
-    from : (l rest : List ℕ) (ended : Bool) → Hears (b ∷ ahead_of chunk' more) l ended rest → Hears (ahead_of chunk input) l ended rest
-    from l rest ended h = by_side f.1
+  module _ (b : ℕ) (ahead' : List ℕ) {P : Type 0} (f : (ahead ≡ b ∷ ahead') ⊎ ((ahead ≡ []) × P)) where
+    from : (l rest : List ℕ) (ended : Bool) → Hears (b ∷ ahead') l ended rest → Hears ahead l ended rest
+    from l rest ended h = by_side f
       where
-        by_side : (ahead_of chunk input ≡ b ∷ ahead_of chunk' more) ⊎ ((input.end ≤ input.at) × (ahead_of chunk' (record { at = 0; end = more.end }) ≡ b ∷ ahead_of chunk' more)) → Hears (ahead_of chunk input) l ended rest
-        by_side (inl e) = subst (λ (a : List ℕ). Hears a l ended rest) (sym e) h
-        by_side (inr u) = subst (λ (a : List ℕ). Hears a l ended rest) (sym (used_up chunk input u.0)) (Hears.reads h)
+        by_side : (ahead ≡ b ∷ ahead') ⊎ ((ahead ≡ []) × P) → Hears ahead l ended rest
+        by_side (inl e) = rw e h
+        by_side (inr u) = rw u.0 (Hears.reads h)
 
-    pub heard_whole : b ≡ 10 → HeardLine ahead₀ before line k false (ahead_of chunk' more)
-    heard_whole e =
-        let ends = subst (λ (c : ℕ). Hears (c ∷ ahead_of chunk' more) [] false (ahead_of chunk' more)) (sym e) Hears.line_end in
-        ended_as [] (ahead_of chunk' more) false (g.on [] (ahead_of chunk' more) false (from [] (ahead_of chunk' more) false ends))
+    pub heard_whole : b ≡ 10 → HeardLine ahead₀ before line k false ahead'
+    heard_whole e = ended_as ahead' false (from [] ahead' false (rw e Hears.line_end))
 
-    module _ (j left' : ℕ) (other : b ≡ 10 → ⊥) (e : j ≡ min k (length line) + 1) (t : left ≡ left' + 1) where
+    module _ (j : ℕ) (other : b ≡ 10 → ⊥) (e : j ≡ min k (length line) + 1) where
       same_place : set line k b ≡ set line (length g.heard) b
       same_place = elim (dec_le (length g.heard) (length before)) [
         | yes h ↦ let n : k ≡ length g.heard = omega (arith, g.count) in rw n
@@ -96,12 +96,12 @@ module _ (ahead₀ before line chunk chunk' : List ℕ) (input : Input) (k left 
           let z : 0 + length g.heard ≡ length g.heard = omega arith in
           rw (written_both g.heard (b ∷ []) before 0, z) (same_place ∙ ap (λ (p : List ℕ). set p (length g.heard) b) g.kept)
 
-      pub hear_more : Hearing ahead₀ before (set line k b) (ahead_of chunk' more) j left'
+      pub hear_more : Hearing ahead₀ before (set line k b) ahead' j (turns + 1)
       hear_more = record {
         heard = g.heard ++ (b ∷ []);
         on = λ l rest ended h. subst (λ (x : List ℕ). Hears ahead₀ x ended rest) (sym (append_assoc g.heard (b ∷ []) l)) (g.on (b ∷ l) rest ended (from (b ∷ l) rest ended (Hears.byte other h)));
         kept = kept_more;
         long = rw length-set g.long;
         count = rw length-append (omega (arith, g.count, g.long));
-        turns = rw length-append (omega (arith, g.turns));
+        each = rw length-append (omega (arith, g.each));
       }

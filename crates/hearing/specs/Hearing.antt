@@ -1,22 +1,20 @@
 -- The lines of the input.
-use Rattle.std.specs.Prelude.{ℕ, zero, suc, ◌+◌, ◌-◌, ◌≤◌, ◌<◌, min, ◌≡◌, ◌⊎◌, List, [], ◌∷◌, Bool, true, false, length, get_or}
-use Rattle.pages.specs.Page.{written}
-use Rattle.hearing.specs.declared.Input.{Input}
-use Rattle.hearing.specs.declared.Next.{Next}
-use Rattle.hearing.specs.declared.Next.TheVariants.{Byte, End}
-
--- what is ahead stands in the chunk that was read last
-pub record Ahead (input : Input) : Type 0 where
-  pub at : input.at ≤ input.end
-  pub end : input.end ≤ 4096
+use Rattle.std.specs.Prelude.{ℕ, zero, suc, ◌+◌, ◌-◌, ◌<◌, min, ◌≡◌, ◌⊎◌, List, [], ◌∷◌, Bool, true, false, length, get_or, set, Option, Some, None}
+use Rattle.hearing.specs.declared.input.Input.{Input}
 
 -- so many bytes of a chunk from a place on
 unfoldable pub bytes_from : List ℕ → ℕ → ℕ → List ℕ
 bytes_from chunk at zero = []
 bytes_from chunk at (suc n) = get_or chunk at 0 ∷ bytes_from chunk (at + 1) n
 
-unfoldable pub ahead_of : List ℕ → Input → List ℕ
-ahead_of chunk input = bytes_from chunk input.at (input.end - input.at)
+-- what was read and is ahead
+unfoldable pub ahead_of : Input → List ℕ
+ahead_of input = bytes_from input.chunk input.at (input.end - input.at)
+
+-- a room with a line written into it, byte by byte from the place `at` on, as far as there is room
+unfoldable pub written : List ℕ → ℕ → List ℕ → List ℕ
+written room at [] = room
+written room at (b ∷ line) = written (set room at b) (at + 1) line
 
 -- A line is heard of the bytes that are ahead, up to the first byte 10, and what follows that stays ahead. Where all is heard
 -- and no byte 10 has come, more is read: which bytes a read brings nothing says, and none are the end of the input.
@@ -35,9 +33,8 @@ pub record HeardLine (ahead before after : List ℕ) (bytes : ℕ) (ended : Bool
   pub count : bytes ≡ min (length line) (length before + 1)
 
 -- the next byte is the first that is ahead; where none is, the first of a chunk that is read
-abbrev pub Follows : List ℕ → Input → List ℕ → Next → Type 0
-Follows chunk input chunk' (Byte b more) =
-    Ahead more
-    × ((ahead_of chunk input ≡ b ∷ ahead_of chunk' more)
-    ⊎ ((input.end ≤ input.at) × (ahead_of chunk' (record { at = 0; end = more.end }) ≡ b ∷ ahead_of chunk' more)))
-Follows chunk input chunk' End = input.end ≤ input.at
+abbrev pub Follows : Input → Option ℕ → Input → Type 0
+Follows input (Some b) input' =
+    (ahead_of input ≡ b ∷ ahead_of input')
+    ⊎ ((ahead_of input ≡ []) × (bytes_from input'.chunk 0 input'.end ≡ b ∷ ahead_of input'))
+Follows input None input' = (ahead_of input ≡ []) × (ahead_of input' ≡ [])

@@ -1,52 +1,20 @@
 // The lines of the input.
 #![tactic(auto)]
 
-ghost use Rattle.std.specs.Prelude.{◌≡◌, ◌+◌, min, length, set};
-ghost use Rattle.hearing.specs.Hearing.{Ahead, ahead_of, HeardLine, Follows};
+mod input;
 
+ghost use Rattle.std.specs.Prelude.{◌≡◌, ◌+◌, ◌<◌, ◌∷◌, min, length, set};
+ghost use Rattle.hearing.specs.Hearing.{ahead_of, HeardLine, Follows};
+
+pub use input::Input;
 use std::io::Read;
 
-// Where the next byte stands in the chunk that was read last, and where that ends.
-#[derive(Clone, Copy)]
-pub struct Input {
-    pub at: usize,
-    pub end: usize,
-}
-
-// A byte of the input and what is ahead of it, or the end.
-#[derive(Drop)]
-pub enum Next {
-    Byte(u8, Input),
-    End,
-}
-
-// How many bytes a line has (one more than there is room for where it is too long), whether the input ended with it, and
-// what is ahead.
+// How many bytes a line has (one more than there is room for where it is too long), and whether the input ended with it: a last line
+// may have both.
 #[derive(Drop)]
 pub struct Heard {
     pub length: usize,
     pub ended: bool,
-    pub input: Input,
-}
-
-// The next byte. Only where the chunk is used up is more read: a line is then answered as soon as it is there. A read that
-// fails is the end of the input.
-fn next_byte(from: &mut impl Read, chunk: &mut [u8; 4096], input: Input) -> Next
-    requires { Ahead input }
-    ensures { Follows chunk.old input chunk.new result }
-{
-    let at = input.at;
-    let end = input.end;
-    if at < end {
-        return Next::Byte(chunk[at], Input { at: at + 1, end });
-    }
-    let Ok(n) = from.read(chunk) else {
-        return Next::End;
-    };
-    if n == 0 {
-        return Next::End;
-    }
-    Next::Byte(chunk[0], Input { at: 1, end: n })
 }
 
 // One byte more of a line that has `at` bytes: it is stored where there is room.
@@ -55,48 +23,63 @@ fn hear(line: &mut [u8], at: usize, byte: u8) -> usize
 {
     if at < line.len() {
         line[at] = byte;
-        return at + 1;
+        at + 1
+    } else {
+        line.len() + 1
     }
-    line.len() + 1
 }
 
-// Reads up to the next byte 10 or the end of the input; what is beyond the line's room is passed over.
-pub fn read_line(
-    from: &mut impl Read,
-    line: &mut [u8],
-    chunk: &mut [u8; 4096],
-    input: Input,
-) -> Heard
-    requires { Ahead input }
-    ensures { HeardLine (ahead_of chunk.old input) line.old line.new result.length result.ended (ahead_of chunk.new result.input) × Ahead result.input }
-{
-    let mut length = 0;
-    let mut ahead = input;
-    let mut left = u64::MAX;
-    while left > 0 {
-        let next = next_byte(from, chunk, ahead);
-        let Next::Byte(byte, more) = next else {
-            return Heard {
-                length,
-                ended: true,
-                input: ahead,
-            };
-        };
-        ahead = more;
-        let ends = byte == 10;
-        if ends {
-            return Heard {
-                length,
-                ended: false,
-                input: ahead,
-            };
-        }
-        length = hear(line, length, byte);
-        left -= 1;
+impl Input {
+    // Takes the byte that is ahead.
+    fn take(&mut self) -> u8
+        requires { self.old.at < self.old.end }
+        ensures taken { ahead_of self.old ≡ result ∷ ahead_of self.new }
+        ensures kept { (self.new.chunk ≡ self.old.chunk) × (self.new.end ≡ self.old.end) }
+    {
+        let byte = self.chunk[self.at];
+        self.at += 1;
+        byte
     }
-    Heard {
-        length,
-        ended: true,
-        input: ahead,
+
+    // The next byte, or nothing at the end. Only where the chunk is used up is more read: a line is then answered as soon as it
+    // is there. A read that fails is the end of the input.
+    fn next(&mut self, from: &mut impl Read) -> Option<u8>
+        ensures { Follows self.old result self.new }
+    {
+        if self.at < self.end {
+            return Some(self.take());
+        }
+        self.end = from.read(&mut self.chunk).unwrap_or(0);
+        self.at = 0;
+        if self.end == 0 {
+            None
+        } else {
+            Some(self.take())
+        }
+    }
+
+    // Reads up to the next byte 10 or the end of the input; what is beyond the line's room is passed over. A proved loop has to
+    // end, and nothing says that an input does, so its turns are counted to a number that no line reaches.
+    pub fn read_line(&mut self, from: &mut impl Read, line: &mut [u8]) -> Heard
+        ensures { HeardLine (ahead_of self.old) line.old line.new result.length result.ended (ahead_of self.new) }
+    {
+        let mut length = 0;
+        for turn in 0..u64::MAX {
+            let Some(byte) = self.next(from) else {
+                break;
+            };
+            let ends = byte == b'\n';
+            if ends {
+                return Heard {
+                    length,
+                    ended: false,
+                };
+            }
+            length = hear(line, length, byte);
+        }
+        Heard {
+            length,
+            ended: true,
+        }
     }
 }

@@ -1,2 +1,2 @@
-mod DayLaws
+pub mod DayLaws
 pub mod Unique

@@ -8,8 +8,8 @@ use borrow.Author.Tests.{le-leb}
 use lib.ListN.{length}
 use Rattle.rules.specs.Judging.{or_else, in_turn}
 use Rattle.rules.specs.declared.Asked.{Asked}
-use Rattle.rules.specs.declared.Judged.{Judged}
-use Rattle.rules.specs.declared.Judged.TheVariants.{Fine}
+use Rattle.rules.specs.Judging.{Judged}
+use Rattle.rules.specs.Judging.{fine}
 use Rattle.rules.proofs.JudgingLaws.{nothing_follows, each_fine}
 use Rattle.walks.specs.Rows.{Rows, at}
 use Rattle.passing.specs.Signs.{Signs}
@@ -19,7 +19,7 @@ module _ (n m : ℕ) (R : Rows) (all : (e : ℕ) → 1 ≤ e → e ≤ m → at 
   pub open_judged : (others : Bool) → network_judged n m R others ≡ arcs_judged n m R others
   unfolding network_judged
   open_judged others =
-      let good : closures m R.closures ≡ Fine = each_fine _ _ m (λ e low high. le-leb (at R.closures e) 1 (omega (arith, all e low high))) in
+      let good : closures m R.closures ≡ fine = each_fine _ _ m (λ e low high. le-leb (at R.closures e) 1 (omega (arith, all e low high))) in
       rw (le-leb m _ long, good) (nothing_follows _)
 
   same : network_judged n m R ≡ arcs_judged n m R

@@ -9,8 +9,8 @@ use lib.IntN.{ℤ}
 use lib.ListN.{length, replicate, length-replicate}
 use lib.Dec.{leb}
 use Rattle.rules.specs.declared.Asked.{Asked}
-use Rattle.rules.specs.declared.Judged.{Judged}
-use Rattle.rules.specs.declared.Judged.TheVariants.{Fine}
+use Rattle.rules.specs.Judging.{Judged}
+use Rattle.rules.specs.Judging.{fine}
 use Rattle.rules.proofs.AndLaws.{and_true, and_yes}
 use Rattle.rules.proofs.JudgingLaws.{both_fine, nothing_follows, passed, each_passes, each_fine}
 use Rattle.geometry.specs.Box.{Within}
@@ -66,14 +66,14 @@ good_arc_lem n tail head weight a =
 
 module _ (n m : ℕ) (R : Rows) (others : Bool) where
   -- the other rows are long enough
-  pub arcs_others : arcs_judged n m R others ≡ Fine → others ≡ true
+  pub arcs_others : arcs_judged n m R others ≡ fine → others ≡ true
   unfolding arcs_judged
   arcs_others e =
       let p = both_fine (sizes n m) _ e in
       (and_true (arc_rows_long m R) others (passed _ _ (both_fine (lengths (arc_rows_long m R && others)) _ p.1).0)).1
 
   -- the rows are sound, with any row of closures that is long enough
-  pub arcs_fine : arcs_judged n m R others ≡ Fine → m ≤ length R.closures → Sound n m R × (others ≡ true)
+  pub arcs_fine : arcs_judged n m R others ≡ fine → m ≤ length R.closures → Sound n m R × (others ≡ true)
   unfolding arcs_judged
   arcs_fine e closed =
       let p = both_fine (sizes n m) _ e in
@@ -82,7 +82,7 @@ module _ (n m : ℕ) (R : Rows) (others : Bool) where
       let b = and_true (leb 1 n) (leb n 512) a.0 in
       let l = and_true (arc_rows_long m R) others (passed _ _ q.0) in
       let long = long_arcs m R l.0 in
-      let good = each_passes _ _ m (both_fine (arcs n m R) Fine q.1).0 in (
+      let good = each_passes _ _ m (both_fine (arcs n m R) fine q.1).0 in (
         record {
           nodes_low = leb-true 1 n b.0;
           nodes_high = leb-true n 512 b.1;
@@ -96,19 +96,19 @@ module _ (n m : ℕ) (R : Rows) (others : Bool) where
         l.1,
       )
 
-  arcs_judged_lem : Sound n m R → others ≡ true → arcs_judged n m R others ≡ Fine
+  arcs_judged_lem : Sound n m R → others ≡ true → arcs_judged n m R others ≡ fine
   unfolding arcs_judged
   arcs_judged_lem s o =
       let size : leb 1 n && leb n 512 && leb m 2048 ≡ true =
       and_yes (and_yes (le-leb 1 n s.nodes_low) (le-leb n 512 s.nodes_high)) (le-leb m 2048 s.arcs_high) in
       let long : arc_rows_long m R ≡ true =
       and_yes (and_yes (le-leb m _ s.tails_long) (le-leb m _ s.heads_long)) (le-leb m _ s.weights_long) in
-      let good : arcs n m R ≡ Fine =
+      let good : arcs n m R ≡ fine =
       each_fine _ _ m (λ i low high. good_arc_lem n (at R.tails i) (at R.heads i) (at R.weights i) (s.arcs i low high)) in
       rw (size, long, o, good) refl
 
 -- rows that were lent without closures are sound with every arc open
-pub arcs_fine_open : (n m : ℕ) (R : Rows) (others : Bool) → arcs_judged n m R others ≡ Fine
+pub arcs_fine_open : (n m : ℕ) (R : Rows) (others : Bool) → arcs_judged n m R others ≡ fine
     → Sound n m (rows R.tails R.heads R.weights (replicate m 0)) × (others ≡ true)
 unfolding arcs_judged
 arcs_fine_open n m R others e =
@@ -122,29 +122,29 @@ Closures m row = (e : ℕ) → 1 ≤ e → e ≤ m → at row e ≤ 1
 
 module _ (n m : ℕ) (R : Rows) (others : Bool) where
   -- the row of closures is judged among the others
-  pub closed_fine : arcs_judged n m R (leb m (length R.closures) && others) ≡ Fine → Sound n m R × (others ≡ true)
+  pub closed_fine : arcs_judged n m R (leb m (length R.closures) && others) ≡ fine → Sound n m R × (others ≡ true)
   closed_fine e =
       let long = leb m (length R.closures) in
       let o = and_true long others (arcs_others n m R (long && others) e) in
       ((arcs_fine n m R (long && others) e (leb-true m _ o.0)).0, o.1)
 
   -- the rows are sound, and the others long enough
-  pub network_fine : network_judged n m R others ≡ Fine → Sound n m R × (others ≡ true)
+  pub network_fine : network_judged n m R others ≡ fine → Sound n m R × (others ≡ true)
   unfolding network_judged
   network_fine e = closed_fine (both_fine (arcs_judged n m R (leb m (length R.closures) && others)) _ e).0
 
-  pub network-closures : network_judged n m R others ≡ Fine → Closures m R.closures
+  pub network-closures : network_judged n m R others ≡ fine → Closures m R.closures
   unfolding network_judged
   network-closures e =
       let p = both_fine (arcs_judged n m R (leb m (length R.closures) && others)) _ e in
-      let good = each_passes _ _ m (both_fine (closures m R.closures) Fine p.1).0 in
+      let good = each_passes _ _ m (both_fine (closures m R.closures) fine p.1).0 in
       λ i low high. leb-true (at R.closures i) 1 (good i low high)
 
-  pub network_judged_lem : Sound n m R → Closures m R.closures → others ≡ true → network_judged n m R others ≡ Fine
+  pub network_judged_lem : Sound n m R → Closures m R.closures → others ≡ true → network_judged n m R others ≡ fine
   unfolding network_judged
   network_judged_lem s bytes o =
       let long = and_yes (le-leb m _ s.closures_long) o in
-      let good : closures m R.closures ≡ Fine = each_fine _ _ m (λ i low high. le-leb (at R.closures i) 1 (bytes i low high)) in
+      let good : closures m R.closures ≡ fine = each_fine _ _ m (λ i low high. le-leb (at R.closures i) 1 (bytes i low high)) in
       rw (arcs_judged_lem n m R (leb m (length R.closures) && others) s long, good) refl
 
 -- ---- What is asked
@@ -158,11 +158,11 @@ pub true_asked : (b test : Bool) → (b ≡ true → test ≡ true) → if_asked
 true_asked true test h = h refl
 true_asked false test h = refl
 
-pub asked_fine : (b : Bool) (stage : Judged) → when_asked b stage ≡ Fine → b ≡ true → stage ≡ Fine
+pub asked_fine : (b : Bool) (stage : Judged) → when_asked b stage ≡ fine → b ≡ true → stage ≡ fine
 asked_fine true stage e h = e
 asked_fine false stage e h = absurd (false≢true h)
 
-pub fine_asked : (b : Bool) (stage : Judged) → (b ≡ true → stage ≡ Fine) → when_asked b stage ≡ Fine
+pub fine_asked : (b : Bool) (stage : Judged) → (b ≡ true → stage ≡ fine) → when_asked b stage ≡ fine
 fine_asked true stage h = h refl
 fine_asked false stage h = refl
 
@@ -211,23 +211,23 @@ signs_long_lem n m asked G others e =
 
 -- for any judgement of a network: what is fine together is fine each
 module _ (judged : Bool → Judged) (n m : ℕ) (asked : Asked) (G : Signs) (others : Bool) where
-  pub placed_parts : placed_by judged n m asked G others ≡ Fine
-      → (judged (signs_long n m asked G others) ≡ Fine) × (asked.boxes ≡ true → coordinates n G.x G.y ≡ Fine) × (asked.masks ≡ true → module_numbers n G.modules ≡ Fine)
+  pub placed_parts : placed_by judged n m asked G others ≡ fine
+      → (judged (signs_long n m asked G others) ≡ fine) × (asked.boxes ≡ true → coordinates n G.x G.y ≡ fine) × (asked.masks ≡ true → module_numbers n G.modules ≡ fine)
   unfolding placed_by
   placed_parts e =
       let p = both_fine (judged (signs_long n m asked G others)) _ e in
       let q = both_fine (when_asked asked.boxes (coordinates n G.x G.y)) _ p.1 in
-      let r = both_fine (when_asked asked.masks (module_numbers n G.modules)) Fine q.1 in
+      let r = both_fine (when_asked asked.masks (module_numbers n G.modules)) fine q.1 in
       (p.0, asked_fine asked.boxes _ q.0, asked_fine asked.masks _ r.0)
 
-  pub shaped_parts : shaped_by judged n m asked G others ≡ Fine → (placed_by judged n m asked G others ≡ Fine) × (asked.boxes ≡ true → shapes m G.boxes ≡ Fine)
+  pub shaped_parts : shaped_by judged n m asked G others ≡ fine → (placed_by judged n m asked G others ≡ fine) × (asked.boxes ≡ true → shapes m G.boxes ≡ fine)
   unfolding shaped_by
   shaped_parts e =
       let p = both_fine (placed_by judged n m asked G others) _ e in
-      (p.0, asked_fine asked.boxes _ (both_fine (when_asked asked.boxes (shapes m G.boxes)) Fine p.1).0)
+      (p.0, asked_fine asked.boxes _ (both_fine (when_asked asked.boxes (shapes m G.boxes)) fine p.1).0)
 
 module _ (n m : ℕ) (R : Rows) (asked : Asked) (G : Signs) (others : Bool) where
-  pub placed_fine : placed_by (network_judged n m R) n m asked G others ≡ Fine → SignsLent asked n m R G × (others ≡ true)
+  pub placed_fine : placed_by (network_judged n m R) n m asked G others ≡ fine → SignsLent asked n m R G × (others ≡ true)
   placed_fine e =
       let p = placed_parts (network_judged n m R) n m asked G others e in
       let f = network_fine n m R (signs_long n m asked G others) p.0 in
@@ -247,25 +247,25 @@ module _ (n m : ℕ) (R : Rows) (asked : Asked) (G : Signs) (others : Bool) wher
         l.2,
       )
 
-  pub placed_judged : SignsLent asked n m R G → others ≡ true → placed_by (network_judged n m R) n m asked G others ≡ Fine
+  pub placed_judged : SignsLent asked n m R G → others ≡ true → placed_by (network_judged n m R) n m asked G others ≡ fine
   unfolding placed_by
   placed_judged l o =
       let long : signs_long n m asked G others ≡ true =
       and_yes
       (true_asked asked.boxes _ (λ h. let p = l.places h in and_yes (and_yes (le-leb n _ p.x_long) (le-leb n _ p.y_long)) (le-leb (4 * m) _ p.boxes_long)))
       (and_yes (true_asked asked.masks _ (λ h. let p = l.modules h in and_yes (le-leb n _ p.modules_long) (le-leb m _ p.masks_long))) o) in
-      let places : when_asked asked.boxes (coordinates n G.x G.y) ≡ Fine =
+      let places : when_asked asked.boxes (coordinates n G.x G.y) ≡ fine =
       fine_asked asked.boxes _ (λ h.
       each_fine _ _ n (λ t low high.
       let p = (l.places h).places t low high in and_yes (yes-within (coordinate G.x t) p.0) (yes-within (coordinate G.y t) p.1))) in
-      let numbers : when_asked asked.masks (module_numbers n G.modules) ≡ Fine =
+      let numbers : when_asked asked.masks (module_numbers n G.modules) ≡ fine =
       fine_asked asked.masks _ (λ h.
       each_fine _ _ n (λ t low high.
       let p = (l.modules h).numbers t low high in and_yes (le-leb 1 _ p.0) (le-leb _ 32 p.1))) in
       rw (network_judged_lem n m R (signs_long n m asked G others) l.sound l.bytes long, places, numbers) refl
 
 -- what is asked and fine leaves the judgement to the network and the other rows
-pub shaped_adds_nothing : (n m : ℕ) (R : Rows) (asked : Asked) (G : Signs) → shaped_by (network_judged n m R) n m asked G true ≡ Fine → (others : Bool)
+pub shaped_adds_nothing : (n m : ℕ) (R : Rows) (asked : Asked) (G : Signs) → shaped_by (network_judged n m R) n m asked G true ≡ fine → (others : Bool)
     → shaped_by (network_judged n m R) n m asked G others ≡ network_judged n m R others
 unfolding placed_by shaped_by
 shaped_adds_nothing n m R asked G e others =
@@ -275,7 +275,7 @@ shaped_adds_nothing n m R asked G e others =
     let r = and_true (if_asked asked.boxes (box_rows_long n m G.x G.y G.boxes)) _ f in
     let long : if_asked asked.boxes (box_rows_long n m G.x G.y G.boxes) ≡ true = r.0 in
     let long' : if_asked asked.masks (mask_rows_long n m G.modules G.masks) ≡ true = (and_true _ true r.1).0 in
-    let good : when_asked asked.boxes (coordinates n G.x G.y) ≡ Fine = fine_asked asked.boxes _ q.1 in
-    let numbers : when_asked asked.masks (module_numbers n G.modules) ≡ Fine = fine_asked asked.masks _ q.2 in
-    let fine : when_asked asked.boxes (shapes m G.boxes) ≡ Fine = fine_asked asked.boxes _ p.1 in
+    let good : when_asked asked.boxes (coordinates n G.x G.y) ≡ fine = fine_asked asked.boxes _ q.1 in
+    let numbers : when_asked asked.masks (module_numbers n G.modules) ≡ fine = fine_asked asked.masks _ q.2 in
+    let fine : when_asked asked.boxes (shapes m G.boxes) ≡ fine = fine_asked asked.boxes _ p.1 in
     rw (long, long', good, numbers, fine) (nothing_follows _ ∙ nothing_follows _)

@@ -3,10 +3,8 @@
 -- is lent or reads.
 use Rattle.std.specs.Prelude.{ℕ, ◌*◌, Bool, true, false, ◌&&◌, List, [], ◌∷◌, ℤ, length, leb}
 use Rattle.rules.specs.Limits.{most_nodes, most_arcs, most_weight, most_modules}
-use Rattle.rules.specs.Judging.{in_turn, passes, each}
+use Rattle.rules.specs.Judging.{Judged, fine, in_turn, passes, each}
 use Rattle.rules.specs.declared.Asked.{Asked}
-use Rattle.rules.specs.declared.Judged.{Judged}
-use Rattle.rules.specs.declared.Judged.TheVariants.{Fine}
 use Rattle.rules.specs.declared.Refusal.TheVariants.{RowTooShort, BeyondLimits, BadArc, BadClosure, BadCoordinate, BadModule, BadBox, NotInNetwork}
 use Rattle.geometry.specs.Box.{within_b, well_shaped_b}
 use Rattle.geometry.specs.Row.{coordinate, box_of}
@@ -103,7 +101,7 @@ if_asked false test = true
 
 abbrev pub when_asked : Bool → Judged → Judged
 when_asked true stage = stage
-when_asked false stage = Fine
+when_asked false stage = fine
 
 -- the rows of what is asked are long enough, and so are the others
 abbrev pub signs_long : ℕ → ℕ → Asked → Signs → Bool → Bool

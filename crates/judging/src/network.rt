@@ -1,7 +1,7 @@
 // What calls have in common. `others` tells whether the other rows that a call is lent are long enough.
 ghost use Rattle.std.specs.Prelude.{◌≡◌};
-ghost use Rattle.walks.specs.Rows.{rows, open_rows};
-ghost use Rattle.passing.specs.Signs.{signs};
+ghost use Rattle.walks.specs.Lent.{rows_of};
+ghost use Rattle.passing.specs.Lent.{signs_of};
 ghost use Rattle.judging.specs.Order.{arcs_judged, network_judged, placed_by, shaped_by};
 
 use crate::arcs::judge_arcs;
@@ -9,108 +9,54 @@ use crate::boxes::judge_boxes;
 use crate::closures::judge_closures;
 use crate::modules::judge_modules;
 use crate::places::judge_places;
-use crate::sizes::{arc_rows_long, box_rows_long, judge_lengths, judge_sizes, mask_rows_long};
-use rules::{Asked, Judged};
+use crate::sizes::{arc_rows_long, judge_lengths, judge_sizes, signs_long};
+use passing::Signs;
+use rules::{Asked, Refusal};
+use walks::Network;
 
-// Arcs without closures: 5, 2, 8.
-pub fn judge_arc_rows(
-    n: u32,
-    m: u32,
-    tails: &[u32],
-    heads: &[u32],
-    weights: &[u32],
-    others: bool,
-) -> Judged
-    ensures { result ≡ arcs_judged n m (open_rows tails.now heads.now weights.now) others }
+// Arcs, whose closures are not read: 5, 2, 8.
+#[tactic(auto, unfolding(crate::specs::Order::arcs_judged))]
+pub fn judge_arc_rows(net: Network, others: bool) -> Result<(), Refusal>
+    ensures { result ≡ arcs_judged net.entry.n net.entry.m (rows_of net.entry) others }
 {
-    let a = judge_sizes(n, m);
-    let Judged::Fine = a else {
-        return a;
-    };
-    let b = judge_lengths(arc_rows_long(m, tails, heads, weights) & others);
-    let Judged::Fine = b else {
-        return b;
-    };
-    judge_arcs(n, m, tails, heads, weights)
+    judge_sizes(net.n, net.m)?;
+    judge_lengths(arc_rows_long(net) & others)?;
+    judge_arcs(net)
 }
 
 // A network: 5, 2, 8, 14.
-pub fn judge_network(
-    n: u32,
-    m: u32,
-    tails: &[u32],
-    heads: &[u32],
-    weights: &[u32],
-    closures: &[u8],
-    others: bool,
-) -> Judged
-    ensures { result ≡ network_judged n m (rows tails.now heads.now weights.now closures.now) others }
+#[tactic(auto, unfolding(crate::specs::Order::network_judged))]
+pub fn judge_network(net: Network, others: bool) -> Result<(), Refusal>
+    ensures { result ≡ network_judged net.entry.n net.entry.m (rows_of net.entry) others }
 {
-    let long = (m as usize <= closures.len()) & others;
-    let a = judge_arc_rows(n, m, tails, heads, weights, long);
-    let Judged::Fine = a else {
-        return a;
-    };
-    judge_closures(m as usize, closures)
+    let closures_long = net.m as usize <= net.closures.len();
+    judge_arc_rows(net, closures_long & others)?;
+    judge_closures(net.m, net.closures)
 }
 
 // A network with the nodes' places and modules, and rows for what is asked: 5, 2, 8, 14, 9, 18.
-pub fn judge_placed(
-    asked: Asked,
-    n: u32,
-    m: u32,
-    tails: &[u32],
-    heads: &[u32],
-    weights: &[u32],
-    closures: &[u8],
-    x: &[i32],
-    y: &[i32],
-    boxes: &[i32],
-    modules: &[u32],
-    masks: &[u32],
-    others: bool,
-) -> Judged
-    ensures { result ≡ placed_by (network_judged n m (rows tails.now heads.now weights.now closures.now)) n m asked (signs x.now y.now boxes.now modules.now masks.now) others }
+#[tactic(auto, unfolding(crate::specs::Order::placed_by))]
+pub fn judge_placed(asked: Asked, net: Network, signs: Signs, others: bool) -> Result<(), Refusal>
+    ensures { result ≡ placed_by (network_judged net.entry.n net.entry.m (rows_of net.entry)) net.entry.n net.entry.m asked (signs_of signs.entry) others }
 {
-    let by_boxes = asked.boxes;
-    let by_masks = asked.masks;
-    let long = (!by_boxes | box_rows_long(n, m, x, y, boxes))
-        & ((!by_masks | mask_rows_long(n, m, modules, masks)) & others);
-    let a = judge_network(n, m, tails, heads, weights, closures, long);
-    let Judged::Fine = a else {
-        return a;
-    };
-    let b = judge_places(by_boxes, n as usize, x, y);
-    let Judged::Fine = b else {
-        return b;
-    };
-    judge_modules(by_masks, n as usize, modules)
+    judge_network(net, signs_long(net.n, net.m, asked, signs, others))?;
+    if asked.boxes {
+        judge_places(net.n, signs.nodes.x, signs.nodes.y)?;
+    }
+    if asked.masks {
+        judge_modules(net.n, signs.nodes.modules)?;
+    }
+    Ok(())
 }
 
 // A network with what is asked: 5, 2, 8, 14, 9, 18, 10.
-pub fn judge_shaped(
-    asked: Asked,
-    n: u32,
-    m: u32,
-    tails: &[u32],
-    heads: &[u32],
-    weights: &[u32],
-    closures: &[u8],
-    x: &[i32],
-    y: &[i32],
-    boxes: &[i32],
-    modules: &[u32],
-    masks: &[u32],
-    others: bool,
-) -> Judged
-    ensures { result ≡ shaped_by (network_judged n m (rows tails.now heads.now weights.now closures.now)) n m asked (signs x.now y.now boxes.now modules.now masks.now) others }
+#[tactic(auto, unfolding(crate::specs::Order::shaped_by))]
+pub fn judge_shaped(asked: Asked, net: Network, signs: Signs, others: bool) -> Result<(), Refusal>
+    ensures { result ≡ shaped_by (network_judged net.entry.n net.entry.m (rows_of net.entry)) net.entry.n net.entry.m asked (signs_of signs.entry) others }
 {
-    let by_boxes = asked.boxes;
-    let a = judge_placed(
-        asked, n, m, tails, heads, weights, closures, x, y, boxes, modules, masks, others,
-    );
-    let Judged::Fine = a else {
-        return a;
-    };
-    judge_boxes(by_boxes, m as usize, boxes)
+    judge_placed(asked, net, signs, others)?;
+    if asked.boxes {
+        judge_boxes(net.m, signs.boxes)?;
+    }
+    Ok(())
 }

@@ -1,4 +1,3 @@
-mod JudgedLaws
-pub mod LendLaws
-mod StoreLaws
 pub mod PartLaws
+mod StoreLaws
+mod LendLaws

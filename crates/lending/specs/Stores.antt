@@ -1,10 +1,11 @@
 -- The console's stores, the rows that stand in them, and what is lent of a row.
-use Rattle.std.specs.Prelude.{ℕ, ◌+◌, min, ◌≡◌, List, ◌++◌, length, get_or, take, drop, set, replicate}
-use Rattle.commands.specs.Rows.{Value, none, size_of, stretch_of, kind_of}
+use Rattle.std.specs.Prelude.{ℕ, ◌+◌, min, List, ◌++◌, length, get_or, take, drop, set, replicate}
+use Rattle.commands.specs.Rows.{Value, none, stretch_of, kind_of}
 use Rattle.commands.specs.declared.rows.Row.{Row}
 use Rattle.commands.specs.declared.rows.Kind.{Kind}
 use Rattle.commands.specs.declared.rows.Kind.TheVariants.{Counts, Numbers, Bytes}
 use Rattle.commands.specs.declared.rows.Stretch.{Stretch}
+use Rattle.lending.specs.declared.Desk.{Desk}
 use Rattle.lending.specs.declared.rows.Lent.{Lent}
 
 -- ---- the stores
@@ -28,12 +29,6 @@ abbrev pub with_store : (kind : Kind) → List (Value kind) → Stores → Store
 with_store Counts store s = stores store s.numbers s.bytes
 with_store Numbers store s = stores s.counts store s.bytes
 with_store Bytes store s = stores s.counts s.numbers store
-
--- the stores have all the places that the console has
-pub record Full (s : Stores) : Type 0 where
-  pub counts : length s.counts ≡ size_of Counts
-  pub numbers : length s.numbers ≡ size_of Numbers
-  pub bytes : length s.bytes ≡ size_of Bytes
 
 -- the stores with 0 in all their places
 abbrev pub cleared : Stores → Stores
@@ -74,3 +69,21 @@ row_on r lent s = part_at lent (stretch_of r) (store_of (kind_of r) s)
 -- the stores with the values in the first places of a row
 abbrev pub with_row : (r : Row) → List (Value (kind_of r)) → Stores → Stores
 with_row r values s = with_store (kind_of r) (put_at (stretch_of r) values (store_of (kind_of r) s)) s
+
+-- ---- the desk
+
+-- the stores of a desk
+abbrev pub all_of : Desk → Stores
+all_of d = stores d.counts d.numbers d.bytes
+
+-- the desk with other stores
+abbrev pub on_desk : Stores → Desk → Desk
+on_desk s d = record { sizes = d.sizes; lent = d.lent; counts = s.counts; numbers = s.numbers; bytes = s.bytes }
+
+-- the lent places of a row
+abbrev pub row : (r : Row) → Desk → List (Value (kind_of r))
+row r d = row_on r d.lent (all_of d)
+
+-- the desk with other values in a row's first places
+abbrev pub put : (r : Row) → List (Value (kind_of r)) → Desk → Desk
+put r values d = on_desk (with_row r values (all_of d)) d

@@ -1,64 +1,66 @@
 // The listing of `journeys`: one line per query, and the totals.
-ghost use Rattle.std.specs.Prelude.{◌+◌, ◌≤◌};
+ghost use Rattle.std.specs.Prelude.{◌≡◌, ◌+◌, ◌≤◌, length};
 ghost use Rattle.pages.specs.Page.{Puts};
 ghost use Rattle.listing.specs.Journeys.{length_text, journey_text, journeys_text, totals_text};
 
-use crate::put_count_field;
-use pages::{PAGE, put, put_count, put_decimal};
+use crate::put_field;
+use pages::{PAGE, Page};
 
 // A length, or `no route` for its mark.
-fn put_length(page: &mut [u8; PAGE], at: usize, l: u32) -> usize
-    requires { at + 20 ≤ 368640 }
-    ensures puts { Puts (length_text l) at page.old result page.new }
-    ensures upper_bound { result ≤ at + 20 }
+#[tactic(auto, unfolding(crate::specs::Journeys::length_text, scan::specs::Ascii::bytes))]
+fn put_length(page: &mut Page<PAGE>, l: u32)
+    requires { length page.old + 10 ≤ PAGE }
+    ensures puts { Puts (length_text l) page.old page.new }
+    ensures upper_bound { length page.new ≤ length page.old + 10 }
 {
-    if l == 4294967295 {
-        return put(page, at, b"no route");
+    if l == u32::MAX {
+        page.put(b"no route");
+    } else {
+        page.put_number(l);
     }
-    put_count(page, at, l)
 }
 
 // A query's line: source, target, length.
-fn put_journey(page: &mut [u8; PAGE], at: usize, s: u32, t: u32, l: u32) -> usize
-    requires { at + 63 ≤ 368640 }
-    ensures puts { Puts (journey_text s t l) at page.old result page.new }
-    ensures upper_bound { result ≤ at + 63 }
+#[tactic(auto, unfolding(crate::specs::Journeys::journey_text, scan::specs::Ascii::bytes))]
+fn put_journey(page: &mut Page<PAGE>, s: u32, t: u32, l: u32)
+    requires { length page.old + 33 ≤ PAGE }
+    ensures puts { Puts (journey_text s t l) page.old page.new }
+    ensures upper_bound { length page.new ≤ length page.old + 33 }
 {
-    let a = put_count_field(page, at, s);
-    let b = put_count_field(page, a, t);
-    let c = put_length(page, b, l);
-    put(page, c, b"\n")
+    put_field(page, s);
+    put_field(page, t);
+    put_length(page, l);
+    page.put(b"\n");
 }
 
 // The lines of the first k queries.
+#[tactic(auto, unfolding(crate::specs::Journeys::journeys_text))]
 pub fn put_journeys(
-    page: &mut [u8; PAGE],
+    page: &mut Page<PAGE>,
     k: usize,
     sources: &[u32; 256],
     targets: &[u32; 256],
     lengths: &[u32; 256],
-) -> usize
+)
     requires { k ≤ 256 }
-    ensures puts { Puts (journeys_text sources.now targets.now lengths.now k) 0 page.old result page.new }
-    ensures upper_bound { result ≤ 20000 }
+    ensures listed { page.new ≡ journeys_text sources.now targets.now lengths.now k }
+    ensures upper_bound { length page.new ≤ 20000 }
 {
-    let mut at = 0;
-    let mut i = 0;
-    while i < k {
-        at = put_journey(page, at, sources[i], targets[i], lengths[i]);
-        i += 1;
+    page.clear();
+    for i in 0..k {
+        put_journey(page, sources[i], targets[i], lengths[i]);
     }
-    at
 }
 
 // The totals: how many had a route, how many had none, and the sum of the lengths found.
-pub fn put_totals(page: &mut [u8; PAGE], at: usize, found: u32, none: u32, sum: u64) -> usize
-    requires { at ≤ 20000 }
-    ensures puts { Puts (totals_text found none sum) at page.old result page.new }
-    ensures upper_bound { result ≤ at + 63 }
+#[tactic(auto, unfolding(crate::specs::Journeys::totals_text, scan::specs::Ascii::bytes))]
+pub fn put_totals(page: &mut Page<PAGE>, found: u32, none: u32, sum: u64)
+    requires { length page.old ≤ 20000 }
+    ensures puts { Puts (totals_text found none sum) page.old page.new }
+    ensures upper_bound { length page.new ≤ length page.old + 43 }
 {
-    let a = put_count_field(page, at, found);
-    let b = put_count_field(page, a, none);
-    let c = put_decimal(page, b, sum);
-    put(page, c, b"\n")
+    put_field(page, found);
+    put_field(page, none);
+    page.put_number(sum);
+    page.put(b"\n");
 }

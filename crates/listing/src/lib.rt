@@ -3,83 +3,61 @@
 
 pub mod journeys;
 
-ghost use Rattle.std.specs.Prelude.{◌+◌, ◌*◌, ◌≤◌, length};
+ghost use Rattle.std.specs.Prelude.{◌≡◌, ◌+◌, ◌*◌, ◌≤◌, ◌<◌, ◌++◌, length};
+ghost use Rattle.scan.specs.Ascii.{bytes};
 ghost use Rattle.pages.specs.Page.{Puts};
-ghost use Rattle.listing.specs.Listing.{count_field, whole_field, box_text, line_text, listing};
+ghost use Rattle.listing.specs.Listing.{box_text, line_text, listing};
 
-use pages::{PAGE, put, put_count, put_number};
+use pages::{Number, PAGE, Page};
+use walks::Network;
 
 // A number and a space.
-fn put_count_field(page: &mut [u8; PAGE], at: usize, n: u32) -> usize
-    requires { at + 21 ≤ 368640 }
-    ensures puts { Puts (count_field n) at page.old result page.new }
-    ensures upper_bound { result ≤ at + 21 }
+#[tactic(auto, unfolding(scan::specs::Ascii::bytes))]
+fn put_field<T: Number>(page: &mut Page<PAGE>, n: T)
+    requires { length page.old + T.most + 1 ≤ PAGE }
+    ensures puts { Puts (T.spelt n ++ bytes " ") page.old page.new }
+    ensures upper_bound { length page.new ≤ length page.old + T.most + 1 }
 {
-    let end = put_count(page, at, n);
-    put(page, end, b" ")
-}
-
-fn put_number_field(page: &mut [u8; PAGE], at: usize, z: i32) -> usize
-    requires { at + 22 ≤ 368640 }
-    ensures puts { Puts (whole_field z) at page.old result page.new }
-    ensures upper_bound { result ≤ at + 22 }
-{
-    let end = put_number(page, at, z);
-    put(page, end, b" ")
+    page.put_number(n);
+    page.put(b" ");
 }
 
 // The four sides of an arc's box, and the line's end.
-fn put_box(page: &mut [u8; PAGE], at: usize, boxes: &[i32], k: usize) -> usize
-    requires { (at + 88 ≤ 368640) × (k + 4 ≤ length boxes.now) }
-    ensures puts { Puts (box_text boxes.now k) at page.old result page.new }
-    ensures upper_bound { result ≤ at + 88 }
+#[tactic(auto, unfolding(scan::specs::Ascii::bytes))]
+fn put_box(page: &mut Page<PAGE>, boxes: &[i32], k: usize)
+    requires { (length page.old + 48 ≤ PAGE) × (k + 4 ≤ length boxes.now) }
+    ensures puts { Puts (box_text boxes.now k) page.old page.new }
+    ensures upper_bound { length page.new ≤ length page.old + 48 }
 {
-    let a = put_number_field(page, at, boxes[k]);
-    let b = put_number_field(page, a, boxes[k + 1]);
-    let c = put_number_field(page, b, boxes[k + 2]);
-    let d = put_number(page, c, boxes[k + 3]);
-    put(page, d, b"\n")
+    put_field(page, boxes[k]);
+    put_field(page, boxes[k + 1]);
+    put_field(page, boxes[k + 2]);
+    page.put_number(boxes[k + 3]);
+    page.put(b"\n");
 }
 
 // An arc's line: arc, tail, head, weight, left, right, low, high.
-fn put_line(
-    page: &mut [u8; PAGE],
-    at: usize,
-    i: usize,
-    tails: &[u32],
-    heads: &[u32],
-    weights: &[u32],
-    boxes: &[i32],
-) -> usize
-    requires { (at + 176 ≤ 368640) × (i + 1 ≤ 2048) × (i + 1 ≤ length tails.now) × (i + 1 ≤ length heads.now) × (i + 1 ≤ length weights.now) × (4 * (i + 1) ≤ length boxes.now) }
-    ensures puts { Puts (line_text tails.now heads.now weights.now boxes.now i) at page.old result page.new }
-    ensures upper_bound { result ≤ at + 176 }
+#[tactic(auto, unfolding(crate::specs::Listing::line_text))]
+fn put_line(page: &mut Page<PAGE>, i: usize, net: Network, boxes: &[i32])
+    requires { (length page.old + 92 ≤ PAGE) × (i < 2048) × (i < length net.tails.now) × (i < length net.heads.now) × (i < length net.weights.now) × (4 * i + 4 ≤ length boxes.now) }
+    ensures puts { Puts (line_text net.entry.tails.now net.entry.heads.now net.entry.weights.now boxes.now i) page.old page.new }
+    ensures upper_bound { length page.new ≤ length page.old + 92 }
 {
-    let a = put_count_field(page, at, (i + 1) as u32);
-    let b = put_count_field(page, a, tails[i]);
-    let c = put_count_field(page, b, heads[i]);
-    let d = put_count_field(page, c, weights[i]);
-    put_box(page, d, boxes, 4 * i)
+    put_field(page, i as u32 + 1);
+    put_field(page, net.tails[i]);
+    put_field(page, net.heads[i]);
+    put_field(page, net.weights[i]);
+    put_box(page, boxes, 4 * i);
 }
 
 // The lines of the arcs 1..m.
-pub fn put_listing(
-    page: &mut [u8; PAGE],
-    m: usize,
-    tails: &[u32],
-    heads: &[u32],
-    weights: &[u32],
-    boxes: &[i32],
-) -> usize
-    requires { (m ≤ 2048) × (m ≤ length tails.now) × (m ≤ length heads.now) × (m ≤ length weights.now) × (4 * m ≤ length boxes.now) }
-    ensures puts { Puts (listing tails.now heads.now weights.now boxes.now m) 0 page.old result page.new }
-    ensures upper_bound { result ≤ 368640 }
+#[tactic(auto, unfolding(crate::specs::Listing::listing))]
+pub fn put_listing(page: &mut Page<PAGE>, net: Network, boxes: &[i32])
+    requires { (net.m ≤ 2048) × (net.m ≤ length net.tails.now) × (net.m ≤ length net.heads.now) × (net.m ≤ length net.weights.now) × (4 * net.m ≤ length boxes.now) }
+    ensures { page.new ≡ listing net.entry.tails.now net.entry.heads.now net.entry.weights.now boxes.now net.entry.m }
 {
-    let mut at = 0;
-    let mut i = 0;
-    while i < m {
-        at = put_line(page, at, i, tails, heads, weights, boxes);
-        i += 1;
+    page.clear();
+    for i in 0..net.m as usize {
+        put_line(page, i, net, boxes);
     }
-    at
 }

@@ -1,2 +1,2 @@
-mod LoadingLaws
+pub mod LoadingLaws
 pub mod Unique

@@ -2,75 +2,62 @@
 use Prim.Native.Nat.{ℕ}
 use mathlib.Core.Path.{◌≡◌, refl, sym, ap}
 use mathlib.Core.Bool.{true, false}
-use mathlib.Core.List.{List}
-use lib.IntN.{ℤ}
-use lib.ListN.{take}
-use Rattle.rules.specs.Paper.{Reply, judged_reply}
+use Rattle.std.specs.Prelude.{Option, Some, None, Result, Ok, Err, MatchResult}
+use Rattle.std.specs.Option.{ok_or}
+use Rattle.std.specs.Result.{is_ok, IsErrAnd}
+use Rattle.rules.specs.Paper.{Reply}
 use Rattle.rules.proofs.PaperLaws.{refusal_nonzero}
-use Rattle.rules.specs.declared.Judged.{Judged}
 use Rattle.rules.specs.declared.Refusal.{Refusal}
-use Rattle.walks.specs.Rows.{rows}
-use Rattle.files.specs.File.{Held, held_in}
-use Rattle.files.specs.declared.File.{File}
-use Rattle.files.specs.declared.File.TheVariants.{Bytes, NoFile}
+use Rattle.rules.specs.declared.Sizes.{Sizes}
+use Rattle.files.specs.File.{Held}
 use Rattle.dimacs.specs.Texts.{Outcome, read, refused}
 use Rattle.dimacs.specs.Reading.{gr_reply, gr_says}
-use Rattle.dimacs.specs.Promise.{GrPromise, CoPromise}
-use Rattle.dimacs.specs.declared.GrReply.TheVariants as graph
-use Rattle.dimacs.specs.declared.CoReply.TheVariants as places
-use Rattle.boxwork.specs.Says.{BuildSays}
-use Rattle.loading.specs.declared.Trouble.TheVariants.{Unread, Refused}
-use Rattle.loading.specs.declared.Loaded.{Loaded}
-use Rattle.loading.specs.declared.Loaded.TheVariants.{Graph, Places}
-use Rattle.loading.specs.Loading.{Plan, plan, arc_row, built_as, is_read, is_graph, LoadsPlaces, places_unread, places_refused, built, Loads, graph_unread, graph_refused, graph_read}
+use Rattle.loading.specs.declared.trouble.Trouble.{Trouble}
+use Rattle.loading.specs.declared.trouble.Trouble.TheVariants.{Unread}
+use Rattle.loading.specs.declared.trouble.Unusable.{Unusable}
+use Rattle.loading.specs.declared.trouble.Unusable.TheVariants.{Graph, Places}
+use Rattle.loading.specs.Loading.{Plan, blank, is_read, is_graph, ReadsGraph, graph_unread, graph_refused, graph_read, ReadsPlaces, Loads, no_graph, no_places, loaded}
 
--- the reader's reply tells whether a graph was read
-read_told : (o : Outcome) (n m : ℕ) → gr_reply (graph.Read n m) ≡ gr_says o → true ≡ is_read o
+-- no file was read, and so it is told
+pub not_read : {A : Type 0} (o : Option A) {t : Trouble} → Err t ≡ ok_or o Unread → (o ≡ None) × (t ≡ Unread)
+not_read None e = (refl, cc)
+not_read (Some x) e = cc
+
+-- ---- whether a graph was read
+
+read_told : (o : Outcome) (s : Sizes) → gr_reply (Ok s) ≡ gr_says o → true ≡ is_read o
 unfolding is_read gr_says
-read_told (read problem lines) n m e = refl
-read_told (refused r) n m e = absurd (refusal_nonzero r (ap (λ (x : Reply). x.number) e))
+read_told (read problem lines) s e = refl
+read_told (refused r) s e = absurd (refusal_nonzero r (ap (λ (x : Reply). x.number) e))
 
-refused-told : (o : Outcome) (r : Refusal) → gr_reply (graph.Refused r) ≡ gr_says o → false ≡ is_read o
+refused-told : (o : Outcome) (r : Refusal) → gr_reply (Err r) ≡ gr_says o → false ≡ is_read o
 unfolding is_read gr_says
 refused-told (read problem lines) r e = absurd (refusal_nonzero r (ap (λ (x : Reply). x.number) (sym e)))
 refused-told (refused s) r e = refl
 
-module _ (bytes : List ℕ) {file : File} where
-  pub not_graph : file ≡ NoFile → false ≡ is_graph (held_in bytes file)
-  not_graph e = rw e
+pub graph_told : {gr : Held} {r : Result Unit Trouble} {after : Plan} → ReadsGraph blank gr r after → is_ok r ≡ is_graph gr
+graph_told graph_unread = refl
+graph_told (graph_refused {r = r} p) = refused-told _ r p.reply
+graph_told (graph_read {s = s} p) = read_told _ s p.reply
 
-  pub no_graph : {before after : Plan} {co : Held} → file ≡ NoFile → Loads before (held_in bytes file) co (Graph Unread) after
-  no_graph e = rw e graph_unread
+-- ---- one file after the other
 
-  pub no_places : {n m : ℕ} {before after : Plan} → file ≡ NoFile → LoadsPlaces n m before (held_in bytes file) (Places Unread) after
-  no_places e = rw e places_unread
+-- q is r, with its trouble told as f tells it
+abbrev Mapped : (Trouble → Unusable) → Result Unit Trouble → Result Unit Unusable → Type 0
+Mapped f r q = MatchResult r (λ x. q ≡ Ok x) (λ t. IsErrAnd q (λ u. u ≡ f t))
 
-  module _ {k : ℕ} (e : file ≡ Bytes k) where
-    module _ {tails heads weights closures : List ℕ} where
-      pub is_graph_lem : {n m : ℕ} → GrPromise (take k bytes) arc_row arc_row arc_row arc_row (graph.Read n m) tails heads weights closures → true ≡ is_graph (held_in bytes file)
-      is_graph_lem p = rw e (read_told _ _ _ p.reply)
+pub graph_fails : {before graph after : Plan} {gr co : Held} (r : Result Unit Trouble) {u : Unusable}
+    → Mapped Graph r (Err u) → ReadsGraph before gr r graph → Loads before gr co (Err u) after
+graph_fails (Ok _) h g = cc
+graph_fails (Err t) h g = rw h (no_graph g)
 
-      pub is_none : {r : Refusal} → GrPromise (take k bytes) arc_row arc_row arc_row arc_row (graph.Refused r) tails heads weights closures → false ≡ is_graph (held_in bytes file)
-      is_none {r} p = rw e (refused-told _ r p.reply)
+places_read : {before graph after : Plan} {gr co : Held} (s : Result Unit Trouble) (q : Result Unit Unusable)
+    → Mapped Places s q → ReadsGraph before gr (Ok tt) graph → ReadsPlaces graph co s after → Loads before gr co q after
+places_read (Ok _) q h g p = rw h (loaded g p)
+places_read (Err t) (Ok _) h g p = absurd h
+places_read (Err t) (Err u) h g p = rw h (no_places g p)
 
-      module _ {before after : Plan} {co : Held} where
-        pub bad_graph : {r : Refusal}
-            → GrPromise (take k bytes) before.arcs.tails before.arcs.heads before.arcs.weights before.arcs.closures (graph.Refused r) tails heads weights closures
-            → Loads before (held_in bytes file) co (Graph (Refused r)) after
-        bad_graph p = rw e (graph_refused p)
-
-        pub on_graph : {n m : ℕ} {l : Loaded}
-            → GrPromise (take k bytes) before.arcs.tails before.arcs.heads before.arcs.weights before.arcs.closures (graph.Read n m) tails heads weights closures
-            → LoadsPlaces n m (plan (rows tails heads weights closures) before.x before.y before.boxes) co l after
-            → Loads before (held_in bytes file) co l after
-        on_graph p s = rw e (graph_read p s)
-
-    module _ {n m : ℕ} {before : Plan} {x y : List ℤ} where
-      pub bad_places : {r : Refusal} {after : Plan} → CoPromise (take k bytes) n before.x before.y (places.Refused r) x y
-          → LoadsPlaces n m before (held_in bytes file) (Places (Refused r)) after
-      bad_places p = rw e (places_refused p)
-
-      pub with_boxes_lem : {boxes : List ℤ} {answer case : Judged} → answer ≡ case → CoPromise (take k bytes) n before.x before.y places.Read x y
-          → BuildSays n m before.arcs x y before.boxes (judged_reply answer) boxes
-          → LoadsPlaces n m before (held_in bytes file) (built_as n m case) (plan before.arcs x y boxes)
-      with_boxes_lem {case = case} q p s = rw e (built case p (rw q at s))
+pub places_next : {before graph after : Plan} {gr co : Held} (r s : Result Unit Trouble) {x : Unit} {q : Result Unit Unusable}
+    → Mapped Graph r (Ok x) → Mapped Places s q → ReadsGraph before gr r graph → ReadsPlaces graph co s after → Loads before gr co q after
+places_next (Ok _) s h k g p = places_read s _ k g p
+places_next (Err t) s h k g p = absurd h

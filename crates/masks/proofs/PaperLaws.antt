@@ -1,17 +1,17 @@
 -- No two answers of the panel have the same number and values.
 use mathlib.Core.Path.{◌≡◌, sym, ap}
 use mathlib.Core.List.{[], ◌∷◌}
+use Rattle.std.specs.Prelude.{ℕ, Result, Ok, Err}
 use Rattle.rules.specs.Paper.{Reply}
+use Rattle.rules.specs.declared.Refusal.{Refusal}
 use Rattle.rules.proofs.PaperLaws.{refusal_injective, refusal_nonzero}
-use Rattle.masks.specs.declared.Panel.{Panel}
-use Rattle.masks.specs.declared.Panel.TheVariants.{Lit, Refused}
 use Rattle.masks.specs.Paper.{paper}
 
-pub paper_injective : (a b : Panel) → paper a ≡ paper b → a ≡ b
-paper_injective (Lit c) (Lit c') e =
+pub paper_injective : (a b : Result ℕ Refusal) → paper a ≡ paper b → a ≡ b
+paper_injective (Ok c) (Ok c') e =
     let values : c ∷ [] ≡ c' ∷ [] = ap (λ (x : Reply). x.values) e in
     let p : c ≡ c' = cc in
     rw p
-paper_injective (Lit c) (Refused r) e = absurd (refusal_nonzero r (ap (λ (x : Reply). x.number) e))
-paper_injective (Refused r) (Lit c) e = absurd (refusal_nonzero r (ap (λ (x : Reply). x.number) (sym e)))
-paper_injective (Refused r) (Refused r') e = ap Refused (refusal_injective r r' e)
+paper_injective (Ok c) (Err r) e = absurd (refusal_nonzero r (ap (λ (x : Reply). x.number) e))
+paper_injective (Err r) (Ok c) e = absurd (refusal_nonzero r (ap (λ (x : Reply). x.number) (sym e)))
+paper_injective (Err r) (Err r') e = ap Err (refusal_injective r r' e)

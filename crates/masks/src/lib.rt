@@ -8,13 +8,6 @@ ghost use Rattle.masks.specs.Says.{LampsSays};
 
 use rules::Refusal;
 
-// How many lamps are lit, or why the call was refused.
-#[derive(Drop)]
-pub enum Panel {
-    Lit { count: u32 },
-    Refused(Refusal),
-}
-
 // Whether a mask has module j.
 pub fn has(mask: u32, j: u32) -> bool
     requires { (1 ≤ j) × (j ≤ 32) }
@@ -31,22 +24,21 @@ pub fn with_module(mask: u32, j: u32) -> u32
     mask | (1 << (j - 1))
 }
 
-// The numbers of a mask's modules, lowest first, into a row of at least 32 places.
-pub fn lamps(mask: u32, row: &mut [u32]) -> Panel
+// The numbers of a mask's modules, lowest first, into a row of at least 32 places: how many there are.
+pub fn lamps(mask: u32, row: &mut [u32]) -> Result<u32, Refusal>
     ensures { LampsSays mask row.old (paper result) row.new }
 {
     if row.len() < 32 {
-        return Panel::Refused(Refusal::RowTooShort);
+        return Err(Refusal::RowTooShort);
     }
+    // each turn takes the lowest module away, so it goes by what is left and not by a count
     let mut rest = mask;
     let mut at = 0;
     while 0 < rest {
-        let low = u32::trailing_zeros(rest);
+        let low = rest.trailing_zeros();
         row[at] = low + 1;
-        rest = rest - (1 << low);
-        at = at + 1;
+        rest -= 1 << low;
+        at += 1;
     }
-    Panel::Lit {
-        count: u32::count_ones(mask),
-    }
+    Ok(mask.count_ones())
 }

@@ -1,5 +1,2 @@
-pub mod Signed
-pub mod PageLaws
 pub mod DecimalLaws
 pub mod SpacedLaws
-pub mod ByteLaws

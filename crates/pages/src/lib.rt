@@ -1,87 +1,77 @@
-// A page: bytes that are lent for a text, which is put together on them.
+// A page: a text that is put together piece by piece, in a memory of a fixed size.
 #![tactic(auto)]
 
-pub mod rows;
+mod numbers;
 
-ghost use Rattle.std.specs.Prelude.{◌≡◌, ◌++◌, ◌+◌, ◌≤◌, length, nat_abs};
+ghost use Rattle.std.specs.Prelude.{◌≡◌, ◌++◌, ◌+◌, ◌≤◌, [], List, ℕ, length, take};
 ghost use Rattle.pages.specs.Page.{Puts};
-ghost use Rattle.scan.specs.Decimal.{decimal, whole};
+
+pub use numbers::Number;
+use std::marker::Model;
 
 // The bytes of a program's page: more than any listing or reply takes.
 pub const PAGE: usize = 368640;
 
-// Puts bytes on the page from a place on, and answers the place after them.
-pub fn put(page: &mut [u8], at: usize, bytes: &[u8]) -> usize
-    requires { at + length bytes.now ≤ length page.old }
-    ensures { Puts bytes.now at page.old result page.new }
-{
-    let mut i = 0;
-    while i < bytes.len() {
-        page[at + i] = bytes[i];
-        i += 1;
+// A text of at most N bytes.
+#[derive(Drop)]
+pub struct Page<const N: usize> {
+    bytes: [u8; N],
+    end: usize,
+}
+
+// Clauses see the text.
+impl<const N: usize> Model for Page<N> {
+    ghost Value = { List ℕ };
+
+    ghost view = { λ page. take page.end page.bytes };
+
+    ghost invariant = { λ page. page.end ≤ N };
+}
+
+impl<const N: usize> Page<N> {
+    // A page with no text.
+    pub fn new() -> Self
+        ensures { result ≡ [] }
+    {
+        Page {
+            bytes: [0; N],
+            end: 0,
+        }
     }
-    at + i
-}
 
-// Puts a number in decimal.
-pub fn put_decimal(page: &mut [u8], at: usize, n: u64) -> usize
-    requires { at + 20 ≤ length page.old }
-    ensures puts { Puts (decimal n) at page.old result page.new }
-    ensures upper_bound { result ≤ at + 20 }
-{
-    let mut digits = [0u8; 20];
-    let k = io::decimal(n, &mut digits);
-    put(page, at, &digits[..k])
-}
-
-pub fn put_count(page: &mut [u8], at: usize, n: u32) -> usize
-    requires { at + 20 ≤ length page.old }
-    ensures puts { Puts (decimal n) at page.old result page.new }
-    ensures upper_bound { result ≤ at + 20 }
-{
-    put_decimal(page, at, n as u64)
-}
-
-// Puts bytes, and a number after them.
-pub fn put_after(page: &mut [u8], at: usize, bytes: &[u8], n: u32) -> usize
-    requires { at + length bytes.now + 20 ≤ length page.old }
-    ensures puts { Puts (bytes.now ++ decimal n) at page.old result page.new }
-    ensures upper_bound { result ≤ at + length bytes.now + 20 }
-{
-    let end = put(page, at, bytes);
-    put_count(page, end, n)
-}
-
-// Puts a number between two texts.
-pub fn put_between(page: &mut [u8], at: usize, before: &[u8], n: u32, after: &[u8]) -> usize
-    requires { at + length before.now + 20 + length after.now ≤ length page.old }
-    ensures puts { Puts (before.now ++ decimal n ++ after.now) at page.old result page.new }
-    ensures upper_bound { result ≤ at + length before.now + 20 + length after.now }
-{
-    let end = put_after(page, at, before, n);
-    put(page, end, after)
-}
-
-// The size of a number, without its sign.
-pub fn size(z: i32) -> u64
-    ensures { result ≡ nat_abs z }
-{
-    let wide = z as i64;
-    if wide < 0 {
-        return (0 - wide) as u64;
+    // What stands on the page.
+    pub fn text(&self) -> &[u8]
+        ensures text { result.now ≡ self.now }
+        ensures upper_bound { length self.now ≤ N }
+    {
+        let whole = &self.bytes[..];
+        &whole[..self.end]
     }
-    wide as u64
-}
 
-// Puts a number that may be negative.
-pub fn put_number(page: &mut [u8], at: usize, z: i32) -> usize
-    requires { at + 21 ≤ length page.old }
-    ensures puts { Puts (whole z) at page.old result page.new }
-    ensures upper_bound { result ≤ at + 21 }
-{
-    if z < 0 {
-        let after = put(page, at, b"-");
-        return put_decimal(page, after, size(z));
+    // Takes the text away.
+    pub fn clear(&mut self)
+        ensures { self.new ≡ [] }
+    {
+        self.end = 0;
     }
-    put_decimal(page, at, size(z))
+
+    // Puts bytes after the text.
+    pub fn put(&mut self, bytes: &[u8])
+        requires { length self.old + length bytes.now ≤ N }
+        ensures { Puts bytes.now self.old self.new }
+    {
+        let end = self.end + bytes.len();
+        let whole = &mut self.bytes[..];
+        whole[self.end..end].copy_from_slice(bytes);
+        self.end = end;
+    }
+
+    // Begins a text with these bytes, in the place of what stood on the page.
+    pub fn start(&mut self, bytes: &[u8])
+        requires { length bytes.now ≤ N }
+        ensures { self.new ≡ bytes.now }
+    {
+        self.clear();
+        self.put(bytes);
+    }
 }

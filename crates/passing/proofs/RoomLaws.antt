@@ -2,7 +2,7 @@
 use Prim.Native.Nat.{ℕ, ◌≤◌}
 use native.Mathlib.Omega.{arith}
 use mathlib.Core.Path.{◌≡◌, refl}
-use mathlib.Core.Bool.{Bool, true, false, not, ◌||◌, false≢true}
+use mathlib.Core.Bool.{Bool, true, false}
 use mathlib.Core.List.{List}
 use lib.IntN.{ℤ}
 use lib.ListN.{length}
@@ -10,27 +10,23 @@ use Rattle.rules.specs.declared.Asked.{Asked}
 use Rattle.geometry.specs.Row.{Shaped}
 use Rattle.passing.specs.Signs.{Signs}
 use Rattle.geometry.proofs.RowLaws.{shaped_fewer}
-use Rattle.passing.specs.declared.Toward.{Toward}
-use Rattle.passing.specs.declared.Toward.TheVariants.{Anywhere, Place}
-use Rattle.passing.specs.declared.Lamp.{Lamp}
-use Rattle.passing.specs.declared.Lamp.TheVariants.{Any, Module}
+use Rattle.std.specs.Prelude.{Option, Some, None}
+use Rattle.passing.specs.declared.Place.{Place}
 use Rattle.passing.specs.declared.Tests.{Tests}
 use Rattle.passing.specs.Asking.{place_if, module_if, tests_toward, Told, Lent, BoxRoom, MaskRoom, Room}
 
-boxes_less : (toward : Toward) (boxes : List ℤ) (m e : ℕ) → e ≤ m → BoxRoom toward m boxes → BoxRoom toward e boxes
-boxes_less Anywhere boxes m e h r = tt
-boxes_less (Place x y) boxes m e h r = shaped_fewer h r
+boxes_less : (place : Option Place) (boxes : List ℤ) (m e : ℕ) → e ≤ m → BoxRoom place m boxes → BoxRoom place e boxes
+boxes_less None boxes m e h r = tt
+boxes_less (Some p) boxes m e h r = shaped_fewer h r
 
-masks_less : (lamp : Lamp) (masks : List ℕ) (m e : ℕ) → e ≤ m → MaskRoom lamp m masks → MaskRoom lamp e masks
-masks_less Any masks m e h r = tt
-masks_less (Module j) masks m e h r = (omega (arith, r.0), r.1, r.2)
+masks_less : (j : Option ℕ) (masks : List ℕ) (m e : ℕ) → e ≤ m → MaskRoom j m masks → MaskRoom j e masks
+masks_less None masks m e h r = tt
+masks_less (Some j) masks m e h r = (omega (arith, r.0), r.1, r.2)
 
 pub room_less : (tests : Tests) (boxes : List ℤ) (masks : List ℕ) (m e : ℕ) → e ≤ m → Room tests m boxes masks → Room tests e boxes masks
 room_less tests boxes masks m e h r = record {
-  no_boxes = r.no_boxes;
-  no_masks = r.no_masks;
-  boxes_lent = boxes_less tests.toward boxes m e h r.boxes_lent;
-  masks_lent = masks_less tests.lamp masks m e h r.masks_lent;
+  boxes_lent = boxes_less tests.place boxes m e h r.boxes_lent;
+  masks_lent = masks_less tests.module_number masks m e h r.masks_lent;
 }
 
 -- what is asked is there
@@ -41,16 +37,6 @@ box_room false px py m boxes h = tt
 mask_room : (b : Bool) (j m : ℕ) (masks : List ℕ) → (b ≡ true → (m ≤ length masks) × (1 ≤ j) × (j ≤ 32)) → MaskRoom (module_if b j) m masks
 mask_room true j m masks h = h refl
 mask_room false j m masks h = tt
-
--- where nothing is asked, there is no place and no module
-plain-place : (a b : Bool) (px py : ℤ) → not (a || b) ≡ true → place_if a px py ≡ Anywhere
-plain-place true b px py e = absurd (false≢true e)
-plain-place false b px py e = refl
-
-plain-module : (a b : Bool) (j : ℕ) → not (a || b) ≡ true → module_if b j ≡ Any
-plain-module true b j e = absurd (false≢true e)
-plain-module false true j e = absurd (false≢true e)
-plain-module false false j e = refl
 
 -- by what is lent, each node's place and module are told, and the rows serve the tests toward it
 module _ {asked : Asked} {n m : ℕ} {G : Signs} (l : Lent asked n m G) (t : ℕ) (low : 1 ≤ t) (high : t ≤ n) where
@@ -64,8 +50,6 @@ module _ {asked : Asked} {n m : ℕ} {G : Signs} (l : Lent asked n m G) (t : ℕ
 
   pub lent_room : (asked.boxes ≡ true → Shaped m G.boxes) → Room (tests_toward asked G.x G.y G.modules t) m G.boxes G.masks
   lent_room shaped = record {
-    no_boxes = plain-place asked.boxes asked.masks _ _;
-    no_masks = plain-module asked.boxes asked.masks _;
     boxes_lent = box_room asked.boxes _ _ m G.boxes shaped;
     masks_lent = mask_room asked.masks _ m G.masks (λ h. let j = l.numbers h t low high in (l.masks_long h, j.0, j.1));
   }

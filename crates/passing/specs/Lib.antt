@@ -2,3 +2,5 @@
 pub mod Signs
 pub mod Passing
 pub mod Asking
+pub mod Lent
+pub mod RoomIsFact

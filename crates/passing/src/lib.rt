@@ -1,106 +1,160 @@
 // Which arcs a search may use: the tests that are asked of each arc that it looks at.
 #![tactic(auto)]
 
-ghost use Rattle.std.specs.Prelude.{◌≡◌, true, ◌≤◌, length};
+ghost use Rattle.std.specs.Prelude.{◌≡◌, true, ◌≤◌, length, []};
 ghost use Rattle.geometry.specs.Row.{coordinate};
 ghost use Rattle.walks.specs.Rows.{at};
-ghost use Rattle.passing.specs.Asking.{place_if, module_if, Told, tests_toward, BoxRoom, MaskRoom, Room, held_b, lit_b, keeps};
+ghost use Rattle.passing.specs.Asking.{place_if, module_if, Told, tests_toward, no_tests, BoxRoom, MaskRoom, Room, held_b, lit_b, keeps};
 
 use rules::Asked;
 
-// Where an arc's box must hold a place, or that boxes are not asked.
+// What is lent of the nodes: their places and their modules.
 #[derive(Clone, Copy)]
-pub enum Toward {
-    Anywhere,
-    Place(i32, i32),
+pub struct Nodes<'a> {
+    pub x: &'a [i32],
+    pub y: &'a [i32],
+    pub modules: &'a [u32],
 }
 
-// Which module an arc's mask must have, or that masks are not asked.
+// What may be lent beside a network, by which a search tells where an arc leads. A call reads only what it is asked to go by.
 #[derive(Clone, Copy)]
-pub enum Lamp {
-    Any,
-    Module(u32),
+pub struct Signs<'a> {
+    pub nodes: Nodes<'a>,
+    pub boxes: &'a [i32],
+    pub masks: &'a [u32],
 }
 
-// What is asked of an arc, beside being open, and whether that is nothing.
+// A place that an arc's box is to hold.
+#[derive(Clone, Copy)]
+pub struct Place {
+    pub x: i32,
+    pub y: i32,
+}
+
+// What is asked of an arc, beside being open: that its box holds a place, that its mask has a module.
 #[derive(Clone, Copy)]
 pub struct Tests {
-    pub plain: bool,
-    pub toward: Toward,
-    pub lamp: Lamp,
+    pub place: Option<Place>,
+    pub module_number: Option<u32>,
 }
 
-// The place of node `t`, if boxes are asked.
-fn place_if(asked: bool, x: &[i32], y: &[i32], t: usize) -> Toward
-    requires { (1 ≤ t) × (asked ≡ true → t ≤ length x.now) × (asked ≡ true → t ≤ length y.now) }
-    ensures { result ≡ place_if asked (coordinate x.now t) (coordinate y.now t) }
-{
-    if !asked {
-        return Toward::Anywhere;
+// The tests, and the boxes and masks that they are asked of.
+#[derive(Clone, Copy)]
+pub struct Sieve<'a> {
+    pub tests: Tests,
+    pub boxes: &'a [i32],
+    pub masks: &'a [u32],
+}
+
+impl<'a> Nodes<'a> {
+    // The place of node `t`, if boxes are asked.
+    fn place(self, asked: bool, t: usize) -> Option<Place>
+        requires { (1 ≤ t) × (asked ≡ true → t ≤ length self.x.now) × (asked ≡ true → t ≤ length self.y.now) }
+        ensures { result ≡ place_if asked (coordinate self.entry.x.now t) (coordinate self.entry.y.now t) }
+    {
+        if !asked {
+            return None;
+        }
+        Some(Place {
+            x: self.x[t - 1],
+            y: self.y[t - 1],
+        })
     }
-    Toward::Place(x[t - 1], y[t - 1])
-}
 
-// The module of node `t`, if masks are asked.
-fn module_if(asked: bool, modules: &[u32], t: usize) -> Lamp
-    requires { (1 ≤ t) × (asked ≡ true → t ≤ length modules.now) }
-    ensures { result ≡ module_if asked (at modules.now t) }
-{
-    if !asked {
-        return Lamp::Any;
+    // The module of node `t`, if masks are asked.
+    fn module(self, asked: bool, t: usize) -> Option<u32>
+        requires { (1 ≤ t) × (asked ≡ true → t ≤ length self.modules.now) }
+        ensures { result ≡ module_if asked (at self.entry.modules.now t) }
+    {
+        if !asked {
+            return None;
+        }
+        Some(self.modules[t - 1])
     }
-    Lamp::Module(modules[t - 1])
-}
 
-// The tests asked, toward node `t`.
-pub fn tests_toward(asked: Asked, x: &[i32], y: &[i32], modules: &[u32], t: usize) -> Tests
-    requires { Told asked x.now y.now modules.now t }
-    ensures { result ≡ tests_toward asked x.now y.now modules.now t }
-{
-    Tests {
-        plain: !(asked.boxes | asked.masks),
-        toward: place_if(asked.boxes, x, y, t),
-        lamp: module_if(asked.masks, modules, t),
-    }
-}
-
-// Whether an arc's box holds the place, if that is asked.
-fn held(toward: Toward, boxes: &[i32], e: usize) -> bool
-    requires { (1 ≤ e) × BoxRoom toward e boxes.now }
-    ensures { result ≡ held_b toward boxes.now e }
-{
-    match toward {
-        Toward::Anywhere => true,
-        Toward::Place(x, y) => geometry::holds(boxes, e, x, y),
-    }
-}
-
-// Whether an arc's mask has the module, if that is asked.
-fn lit(lamp: Lamp, masks: &[u32], e: usize) -> bool
-    requires { (1 ≤ e) × MaskRoom lamp e masks.now }
-    ensures { result ≡ lit_b lamp masks.now e }
-{
-    match lamp {
-        Lamp::Any => true,
-        Lamp::Module(j) => masks::has(masks[e - 1], j),
+    // The tests asked, toward node `t`.
+    pub fn tests_toward(self, asked: Asked, t: usize) -> Tests
+        requires { Told asked self.x.now self.y.now self.modules.now t }
+        ensures { result ≡ tests_toward asked self.entry.x.now self.entry.y.now self.entry.modules.now t }
+    {
+        Tests {
+            place: self.place(asked.boxes, t),
+            module_number: self.module(asked.masks, t),
+        }
     }
 }
 
-// Whether a search may use arc `e`. Where nothing is asked, that it is open decides.
-pub fn passes(tests: Tests, closures: &[u8], boxes: &[i32], masks: &[u32], e: usize) -> bool
-    requires { (1 ≤ e) × (e ≤ length closures.now) × Room tests e boxes.now masks.now }
-    ensures { result ≡ keeps tests closures.now boxes.now masks.now e }
-{
-    if closures[e - 1] != 0 {
-        return false;
+impl<'a> Signs<'a> {
+    // The boxes and coordinates alone, for who has no modules.
+    pub fn of_boxes(x: &'a [i32], y: &'a [i32], boxes: &'a [i32]) -> Signs<'a>
+        ensures places { (result.nodes.x.now ≡ x.entry.now) × (result.nodes.y.now ≡ y.entry.now) }
+        ensures boxes { result.boxes.now ≡ boxes.entry.now }
+        ensures no_masks { (result.nodes.modules.now ≡ []) × (result.masks.now ≡ []) }
+    {
+        Signs {
+            nodes: Nodes { x, y, modules: &[] },
+            boxes,
+            masks: &[],
+        }
     }
-    if tests.plain {
-        return true;
+
+    // The sieve of what is asked, toward node `t`.
+    pub fn toward(self, asked: Asked, t: usize) -> Sieve<'a>
+        requires { Told asked self.nodes.x.now self.nodes.y.now self.nodes.modules.now t }
+        ensures tests { result.tests ≡ tests_toward asked self.entry.nodes.x.now self.entry.nodes.y.now self.entry.nodes.modules.now t }
+        ensures boxes { result.boxes.now ≡ self.entry.boxes.now }
+        ensures masks { result.masks.now ≡ self.entry.masks.now }
+    {
+        Sieve {
+            tests: self.nodes.tests_toward(asked, t),
+            boxes: self.boxes,
+            masks: self.masks,
+        }
     }
-    let toward = tests.toward;
-    if !held(toward, boxes, e) {
-        return false;
+}
+
+impl<'a> Sieve<'a> {
+    // Nothing is asked: every open arc may be used.
+    pub fn open() -> Sieve<'a>
+        ensures { result.tests ≡ no_tests }
+    {
+        Sieve {
+            tests: Tests {
+                place: None,
+                module_number: None,
+            },
+            boxes: &[],
+            masks: &[],
+        }
     }
-    let lamp = tests.lamp;
-    lit(lamp, masks, e)
+
+    // Whether an arc's box holds the place, if that is asked.
+    fn holds(self, e: usize) -> bool
+        requires { (1 ≤ e) × BoxRoom self.tests.place e self.boxes.now }
+        ensures { result ≡ held_b self.entry.tests.place self.entry.boxes.now e }
+    {
+        match self.tests.place {
+            None => true,
+            Some(place) => geometry::holds(self.boxes, e, place.x, place.y),
+        }
+    }
+
+    // Whether an arc's mask has the module, if that is asked.
+    fn lights(self, e: usize) -> bool
+        requires { (1 ≤ e) × MaskRoom self.tests.module_number e self.masks.now }
+        ensures { result ≡ lit_b self.entry.tests.module_number self.entry.masks.now e }
+    {
+        match self.tests.module_number {
+            None => true,
+            Some(j) => masks::has(self.masks[e - 1], j),
+        }
+    }
+
+    // Whether a search may use arc `e`: it is open, and passes what is asked.
+    pub fn passes(self, closures: &[u8], e: usize) -> bool
+        requires { (1 ≤ e) × (e ≤ length closures.now) × Room self.tests e self.boxes.now self.masks.now }
+        ensures { result ≡ keeps self.entry.tests closures.now self.entry.boxes.now self.entry.masks.now e }
+    {
+        closures[e - 1] == 0 && self.holds(e) && self.lights(e)
+    }
 }

@@ -13,7 +13,9 @@ use Rattle.walks.proofs.RouteLaws.{route_unique}
 use Rattle.judging.proofs.FineLaws.{search_why}
 use Rattle.search.specs.Says.{SearchSays}
 use Rattle.reasons.specs.Using.{Among}
-use Rattle.reasons.specs.Reason.{Reason, closed, cut_off, longer, tied, on_route, number, OnRoute, True}
+use Rattle.reasons.specs.declared.Reason.{Reason}
+use Rattle.reasons.specs.declared.Reason.TheVariants.{Closed as closed, CutOff as cut_off, Longer as longer, Tied as tied, OnRoute as on_route}
+use Rattle.reasons.specs.Reason.{number, OnRoute, True}
 use Rattle.reasons.specs.Paper.{values, told}
 use Rattle.reasons.specs.Says.{reason, none, WhySays, refused, answered}
 use Rattle.reasons.specs.Steps.{Known}

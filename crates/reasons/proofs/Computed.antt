@@ -8,8 +8,8 @@ use lib.Dec.{ltb}
 use lib.ListN.{length, take, drop, replicate, length-replicate}
 use borrow.Author.Tests.{eqb-true, eq-eqb, ltb-true, ltb-false}
 use Rattle.rules.specs.Paper.{Reply, refusal}
-use Rattle.rules.specs.declared.Judged.{Judged}
-use Rattle.rules.specs.declared.Judged.TheVariants.{Fine, Refused}
+use Rattle.std.specs.Prelude.{Ok, Err}
+use Rattle.rules.specs.Judging.{Judged, fine}
 use Rattle.rules.specs.declared.Refusal.TheVariants.{NoWalk}
 use Rattle.walks.specs.Rows.{Rows, at, is_open, network, turned}
 use Rattle.walks.proofs.RowsLaws.{turned_sound}
@@ -21,8 +21,8 @@ use Rattle.settling.proofs.Choice.{cond_by}
 use Rattle.settling.proofs.SearchIsRight.{search_found, search_missed}
 use Rattle.judging.specs.Order.{why_judged}
 use Rattle.judging.proofs.FineLaws.{why_fine}
-use Rattle.reasons.specs.declared.shortest.Way.TheVariants.{Leads, Cut}
-use Rattle.reasons.specs.Reason.{Reason, closed, cut_off, longer, tied, on_route}
+use Rattle.reasons.specs.declared.Reason.{Reason}
+use Rattle.reasons.specs.declared.Reason.TheVariants.{Closed as closed, CutOff as cut_off, Longer as longer, Tied as tied, OnRoute as on_route}
 use Rattle.reasons.specs.Paper.{told}
 use Rattle.reasons.specs.Says.{Answers, none, WhySays, refused, answered}
 use Rattle.reasons.specs.Steps.{is_among, Asked, Known}
@@ -30,7 +30,7 @@ use Rattle.reasons.proofs.Finding.{first_places_lem, found_known}
 use Rattle.reasons.proofs.Ways.{way_cut, way_leads}
 use Rattle.reasons.proofs.Telling.{told-closed, start-cut, end_cut, told_longer, told_tied, told_on_route}
 
-pub why_asked : (n m : ℕ) (R : Rows) (s t arc : ℕ) → why_judged n m R s t arc ≡ Fine → Asked n m R s t arc
+pub why_asked : (n m : ℕ) (R : Rows) (s t arc : ℕ) → why_judged n m R s t arc ≡ fine → Asked n m R s t arc
 why_asked n m R s t arc e =
     let f = why_fine n m R s t arc e in
     let l = f.0 in
@@ -73,8 +73,8 @@ module _ (n m : ℕ) (R : Rows) (s t e : ℕ) where
   Tells r = Answers (network m R) n s t e (told r)
 
   unfoldable pub judged_reply : Judged → Reply
-  judged_reply (Refused r) = refusal r
-  judged_reply Fine = cond to_end.found (told reason_of) (refusal (NoWalk to_end.count))
+  judged_reply (Err r) = refusal r
+  judged_reply (Ok _) = cond to_end.found (told reason_of) (refusal (NoWalk to_end.count))
 
   unfoldable pub reply_of : Reply
   reply_of = judged_reply (why_judged n m R s t e)
@@ -87,8 +87,6 @@ module _ (n m : ℕ) (R : Rows) (s t e : ℕ) where
       reason_told =
           cond_by Tells (is_open R.closures e) _ _
           (λ clear.
-          let before = length_of to_start.labels (at R.tails e) in
-          let after = length_of back_to.labels (at R.heads e) in
           let o = eqb-true (at R.closures e) 0 clear in
           cond_by Tells to_start.found _ _
           (λ there.
@@ -97,15 +95,15 @@ module _ (n m : ℕ) (R : Rows) (s t e : ℕ) where
           (λ back.
           let q = way_leads (turned_sound asked.sound) asked.target_low asked.target_high {o = back_to} refl back in
           cond_by Tells (ltb (length_of to_end.labels t) through) _ _
-          (λ more. told_longer asked known o (Leads before) (Leads after) p q refl refl (ltb-true _ through more))
+          (λ more. told_longer asked known o p q (ltb-true _ through more))
           (λ less. cond_by Tells (is_among e route) _ _
-          (λ on. told_on_route asked known o (Leads before) (Leads after) p q refl refl refl on)
-          (λ off. told_tied asked known o (Leads before) (Leads after) p q refl refl refl (omega (arith, ltb-false _ through less)) off)))
-          (λ away. end_cut asked known o Cut (way_cut (turned_sound asked.sound) asked.target_low asked.target_high {o = back_to} refl away) refl))
-          (λ away. start-cut asked known o Cut (way_cut asked.sound asked.source_low asked.source_high {o = to_start} refl away) refl))
+          (λ on. told_on_route asked known o p q on)
+          (λ off. told_tied asked known o p q (omega (arith, ltb-false _ through less)) off)))
+          (λ away. end_cut asked known o (way_cut (turned_sound asked.sound) asked.target_low asked.target_high {o = back_to} refl away)))
+          (λ away. start-cut asked known o (way_cut asked.sound asked.source_low asked.source_high {o = to_start} refl away)))
           (λ shut. told-closed asked known (λ z. false≢true (sym shut ∙ eq-eqb (at R.closures e) 0 z)))
 
-    answer_told : Answers (network m R) n s t e (judged_reply Fine)
+    answer_told : Answers (network m R) n s t e (judged_reply fine)
     unfolding network judged_reply
     answer_told =
         cond_by (Answers (network m R) n s t e) to_end.found _ _
@@ -117,8 +115,8 @@ module _ (n m : ℕ) (R : Rows) (s t e : ℕ) where
 
   says_judged : (j : Judged) → why_judged n m R s t e ≡ j → WhySays n m R s t e (judged_reply j)
   unfolding judged_reply
-  says_judged (Refused r) h = refused h
-  says_judged Fine h = answered h (answer_told (why_asked n m R s t e h))
+  says_judged (Err r) h = refused h
+  says_judged (Ok tt) h = answered h (answer_told (why_asked n m R s t e h))
 
   pub reply_says : WhySays n m R s t e reply_of
   unfolding reply_of

@@ -6,8 +6,7 @@ use mathlib.Core.List.{List, [], ◌∷◌, ◌++◌}
 use lib.ListN.{length, take, drop, length-append}
 use lib.Seq.{take-append_seam}
 use Rattle.rules.specs.Paper.{Reply, accepted, refusal}
-use Rattle.rules.specs.declared.Judged.{Judged}
-use Rattle.rules.specs.declared.Judged.TheVariants.{Fine}
+use Rattle.rules.specs.Judging.{Judged, fine}
 use Rattle.rules.specs.declared.Refusal.{Refusal}
 use Rattle.rules.specs.declared.Refusal.TheVariants.{NoWalk}
 use Rattle.rules.proofs.PaperLaws.{refusal_nonzero}
@@ -48,6 +47,6 @@ module _ {N : Net} {n s t : ℕ} where
     answer_none r {arc = arc} (search.none x) e = subst (why.Answers N n s t arc) e (why.none x)
 
     pub says_known : {judged : Judged} {d k c : ℕ} {reply : Reply} {after : List ℕ} → search.Says judged N n s t before reply after → reply ≡ accepted (d ∷ k ∷ c ∷ [])
-        → (judged ≡ Fine) × Known N s t d (take k after)
+        → (judged ≡ fine) × Known N s t d (take k after)
     says_known (search.refused {r = r} h) e = absurd (refusal_nonzero r (ap (λ (x : Reply). x.number) (sym e)))
     says_known (search.answered f a) e = (f, (answer_known a e).0)

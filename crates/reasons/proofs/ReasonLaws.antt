@@ -13,7 +13,9 @@ use Rattle.walks.specs.Route.{Route}
 use Rattle.walks.proofs.RouteLaws.{route_unique, route_best, route_walk}
 use Rattle.reasons.specs.Using.{Among, Uses, BestThrough}
 use Rattle.reasons.proofs.UsingLaws.{uses_reached, through_unique, sum_best}
-use Rattle.reasons.specs.Reason.{Reason, closed, cut_off, longer, tied, on_route, number, Longer, Tied, OnRoute, True, FirstTrue}
+use Rattle.reasons.specs.declared.Reason.{Reason}
+use Rattle.reasons.specs.declared.Reason.TheVariants.{Closed as closed, CutOff as cut_off, Longer as longer, Tied as tied, OnRoute as on_route}
+use Rattle.reasons.specs.Reason.{number, Longer, Tied, OnRoute, True, FirstTrue}
 
 number_range : (r : Reason) → (1 ≤ number r) × (number r ≤ 5)
 number_range closed = (omega arith, omega arith)

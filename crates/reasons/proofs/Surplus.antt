@@ -13,7 +13,9 @@ use Rattle.judging.proofs.FineLaws.{why_fine}
 use Rattle.walks.proofs.Alike.{Alike, other_way, reached, route, dist, no_walk_alike}
 use Rattle.search.proofs.Cut.{network-cut}
 use Rattle.reasons.specs.Using.{Uses, BestThrough}
-use Rattle.reasons.specs.Reason.{Reason, closed, cut_off, longer, tied, on_route, True, FirstTrue}
+use Rattle.reasons.specs.declared.Reason.{Reason}
+use Rattle.reasons.specs.declared.Reason.TheVariants.{Closed as closed, CutOff as cut_off, Longer as longer, Tied as tied, OnRoute as on_route}
+use Rattle.reasons.specs.Reason.{True, FirstTrue}
 use Rattle.reasons.specs.Says.{Answers, reason, none, WhySays, refused, answered}
 use Rattle.reasons.proofs.SaysLaws.{why_unique}
 

@@ -1,15 +1,16 @@
 -- The reason that is told, by the route, the arc's closure and the ways to its start and from its end.
 use Prim.Native.Nat.{ℕ, ◌+◌, ◌-◌, ◌≤◌, ◌<◌}
 use native.Mathlib.Omega.{arith}
-use mathlib.Core.Path.{◌≡◌, sym, ◌∙◌, subst}
-use mathlib.Core.Bool.{Bool, true, false}
+use mathlib.Core.Path.{◌≡◌}
+use mathlib.Core.Bool.{true, false}
 use mathlib.Core.Logic.{◌≢◌, inl, inr}
 use mathlib.Core.List.{List}
 use borrow.Author.Tests.{eqb-true, eq-eqb}
 use Rattle.walks.specs.Rows.{Rows, at, laid, network, turned}
-use Rattle.reasons.specs.declared.shortest.Way.{Way}
-use Rattle.reasons.specs.declared.shortest.Way.TheVariants.{Leads, Cut}
-use Rattle.reasons.specs.Reason.{Reason, closed, cut_off, longer, tied, on_route, FirstTrue}
+use Rattle.std.specs.Prelude.{Some, None}
+use Rattle.reasons.specs.declared.Reason.{Reason}
+use Rattle.reasons.specs.declared.Reason.TheVariants.{Closed as closed, CutOff as cut_off, Longer as longer, Tied as tied, OnRoute as on_route}
+use Rattle.reasons.specs.Reason.{FirstTrue}
 use Rattle.reasons.specs.Paper.{told}
 use Rattle.reasons.specs.Says.{Answers, reason}
 use Rattle.reasons.specs.Steps.{IsWay, is_among, Asked, Known}
@@ -30,39 +31,29 @@ module _ {n m : ℕ} {R : Rows} {s t e d : ℕ} {arcs : List ℕ} (asked : Asked
     unfolding laid network
     an_arc = ((asked.arc_low, asked.arc_high), eq-eqb _ 0 clear)
 
-    pub start-cut : (a : Way) → IsWay (network m R) s (at R.tails e) a → a ≡ Cut → Answers (network m R) n s t e (told cut_off)
+    pub start-cut : IsWay (network m R) s (at R.tails e) None → Answers (network m R) n s t e (told cut_off)
     unfolding laid network
-    start-cut a p h = because cut_off (true_first cut_off an_arc (inl (subst (IsWay (network m R) s (at R.tails e)) h p)))
+    start-cut p = because cut_off (true_first cut_off an_arc (inl p))
 
     -- the way from the arc's end is searched in the turned network
-    pub end_cut : (b : Way) → IsWay (network m (turned R)) t (at R.heads e) b → b ≡ Cut → Answers (network m R) n s t e (told cut_off)
+    pub end_cut : IsWay (network m (turned R)) t (at R.heads e) None → Answers (network m R) n s t e (told cut_off)
     unfolding laid network
-    end_cut b q h =
-        because cut_off (true_first cut_off an_arc (inr (way_back m R t (at R.heads e) Cut (subst (IsWay (network m (turned R)) t (at R.heads e)) h q))))
+    end_cut q = because cut_off (true_first cut_off an_arc (inr (way_back m R t (at R.heads e) None q)))
 
-    module _
-        (a b : Way) (p : IsWay (network m R) s (at R.tails e) a) (q : IsWay (network m (turned R)) t (at R.heads e) b)
-        {before after : ℕ} (h : a ≡ Leads before) (j : b ≡ Leads after)
-      where
-        to_start : IsWay (network m R) s (at R.tails e) (Leads before)
-        to_start = subst (IsWay (network m R) s (at R.tails e)) h p
+    module _ {before after : ℕ} (p : IsWay (network m R) s (at R.tails e) (Some before)) (q : IsWay (network m (turned R)) t (at R.heads e) (Some after)) where
+      from_end : IsWay (network m R) (at R.heads e) t (Some after)
+      from_end = way_back m R t (at R.heads e) (Some after) q
 
-        from_end : IsWay (network m R) (at R.heads e) t (Leads after)
-        from_end = way_back m R t (at R.heads e) (Leads after) (subst (IsWay (network m (turned R)) t (at R.heads e)) j q)
+      pub through_limit : before + after + at R.weights e ≤ 1_023_000_000
+      through_limit = omega (arith, p.0, from_end.0, (asked.sound.arcs e asked.arc_low asked.arc_high).weight_high)
 
-        pub through_limit : before + after + at R.weights e ≤ 1_023_000_000
-        through_limit = omega (arith, to_start.0, from_end.0, (asked.sound.arcs e asked.arc_low asked.arc_high).weight_high)
+      pub told_longer : d < before + after + at R.weights e → Answers (network m R) n s t e (told (longer (before + after + at R.weights e - d)))
+      unfolding laid network
+      told_longer more = because _ (reason_longer known.dist known.route an_arc p.1 from_end.1 more)
 
-        pub told_longer : d < before + after + at R.weights e → Answers (network m R) n s t e (told (longer (before + after + at R.weights e - d)))
-        unfolding laid network
-        told_longer more = because _ (reason_longer known.dist known.route an_arc to_start.1 from_end.1 more)
+      pub told_tied : before + after + at R.weights e ≤ d → is_among e arcs ≡ false → Answers (network m R) n s t e (told tied)
+      unfolding laid network
+      told_tied same off = because tied (reason_tied known.dist known.route an_arc p.1 from_end.1 same (no_among e arcs off))
 
-        -- r is whether e is on the route
-        module _ {r : Bool} (test : r ≡ is_among e arcs) where
-          pub told_tied : before + after + at R.weights e ≤ d → r ≡ false → Answers (network m R) n s t e (told tied)
-          unfolding laid network
-          told_tied same off =
-              because tied (reason_tied known.dist known.route an_arc to_start.1 from_end.1 same (no_among e arcs (sym test ∙ off)))
-
-          pub told_on_route : r ≡ true → Answers (network m R) n s t e (told on_route)
-          told_on_route on = because on_route (true_first on_route an_arc (record { arcs = arcs; route = known.route; on = yes_among e arcs (sym test ∙ on) }))
+      pub told_on_route : is_among e arcs ≡ true → Answers (network m R) n s t e (told on_route)
+      told_on_route on = because on_route (true_first on_route an_arc (record { arcs = arcs; route = known.route; on = yes_among e arcs on }))

@@ -6,7 +6,9 @@ use Rattle.walks.specs.Rows.{Rows, network}
 use Rattle.walks.specs.Least.{Reached, Dist}
 use Rattle.search.specs.Says.{SearchSays}
 use Rattle.reasons.specs.Using.{Among, Uses, BestThrough}
-use Rattle.reasons.specs.Reason.{Reason, number, on_route, True}
+use Rattle.reasons.specs.declared.Reason.{Reason}
+use Rattle.reasons.specs.declared.Reason.TheVariants.{OnRoute as on_route}
+use Rattle.reasons.specs.Reason.{number, True}
 use Rattle.reasons.specs.Paper.{told}
 use Rattle.reasons.specs.Says.{WhySays}
 

@@ -1,9 +1,10 @@
 -- What the paper says of an answer.
-use Rattle.std.specs.Prelude.{ℕ, List, [], ◌∷◌}
+use Rattle.std.specs.Prelude.{ℕ, List, [], ◌∷◌, Result, Ok, Err}
 use Rattle.rules.specs.Paper.{Reply, accepted, refusal}
-use Rattle.reasons.specs.declared.WhyNot.{WhyNot}
-use Rattle.reasons.specs.declared.WhyNot.TheVariants.{Closed, CutOff, Longer, Tied, OnRoute, Refused}
-use Rattle.reasons.specs.Reason.{Reason, closed, cut_off, longer, tied, on_route, number}
+use Rattle.rules.specs.declared.Refusal.{Refusal}
+use Rattle.reasons.specs.declared.Reason.{Reason}
+use Rattle.reasons.specs.declared.Reason.TheVariants.{Closed as closed, CutOff as cut_off, Longer as longer, Tied as tied, OnRoute as on_route}
+use Rattle.reasons.specs.Reason.{number}
 
 -- the excess is returned with 3 alone
 abbrev pub values : Reason → List ℕ
@@ -18,10 +19,6 @@ abbrev pub told : Reason → Reply
 told r = accepted (number r ∷ values r)
 
 -- or the refusal
-abbrev pub paper : WhyNot → Reply
-paper Closed = told closed
-paper CutOff = told cut_off
-paper (Longer excess) = told (longer excess)
-paper Tied = told tied
-paper OnRoute = told on_route
-paper (Refused r) = refusal r
+abbrev pub paper : Result Reason Refusal → Reply
+paper (Ok r) = told r
+paper (Err r) = refusal r

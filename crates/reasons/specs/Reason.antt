@@ -5,13 +5,8 @@ use Rattle.walks.specs.Walk.{Net}
 use Rattle.walks.specs.Least.{Reached, Dist}
 use Rattle.walks.specs.Route.{Route}
 use Rattle.reasons.specs.Using.{Among, Uses, BestThrough}
-
-pub data Reason : Type 0 where
-  closed : Reason
-  cut_off : Reason
-  longer : (excess : ℕ) → Reason
-  tied : Reason
-  on_route : Reason
+use Rattle.reasons.specs.declared.Reason.{Reason}
+use Rattle.reasons.specs.declared.Reason.TheVariants.{Closed as closed, CutOff as cut_off, Longer as longer, Tied as tied, OnRoute as on_route}
 
 -- the paper's number
 abbrev pub number : Reason → ℕ

@@ -1,7 +1,7 @@
 -- What `why` says: the one relation between what is lent and the reply.
-use Rattle.std.specs.Prelude.{ℕ, ◌≡◌}
+use Rattle.std.specs.Prelude.{ℕ, ◌≡◌, Err}
 use Rattle.rules.specs.Paper.{Reply, refusal}
-use Rattle.rules.specs.declared.Judged.TheVariants.{Fine, Refused}
+use Rattle.rules.specs.Judging.{fine}
 use Rattle.rules.specs.declared.Refusal.{Refusal}
 use Rattle.rules.specs.declared.Refusal.TheVariants as refusals
 use Rattle.walks.specs.Walk.{Net}
@@ -9,7 +9,8 @@ use Rattle.walks.specs.Rows.{Rows, network}
 use Rattle.walks.specs.Least.{Reached}
 use Rattle.walks.specs.Search.{NoWalk}
 use Rattle.judging.specs.Order.{why_judged}
-use Rattle.reasons.specs.Reason.{Reason, FirstTrue}
+use Rattle.reasons.specs.declared.Reason.{Reason}
+use Rattle.reasons.specs.Reason.{FirstTrue}
 use Rattle.reasons.specs.Paper.{told}
 
 -- The answer for a network of n nodes: where the target can be reached, the first reason that is true. Else 12 with the settled
@@ -20,5 +21,5 @@ pub data Answers (N : Net) (n s t arc : ℕ) : Reply → Type 0 where
 
 -- The judgement decides: a refusal is the reply; where it is fine, the answer is given
 pub data WhySays (n m : ℕ) (R : Rows) (s t arc : ℕ) : Reply → Type 0 where
-  refused : {r : Refusal} → why_judged n m R s t arc ≡ Refused r → WhySays n m R s t arc (refusal r)
-  answered : {reply : Reply} → why_judged n m R s t arc ≡ Fine → Answers (network m R) n s t arc reply → WhySays n m R s t arc reply
+  refused : {r : Refusal} → why_judged n m R s t arc ≡ Err r → WhySays n m R s t arc (refusal r)
+  answered : {reply : Reply} → why_judged n m R s t arc ≡ fine → Answers (network m R) n s t arc reply → WhySays n m R s t arc reply

@@ -1,21 +1,19 @@
 -- What the inner steps of `why` tell.
-use Rattle.std.specs.Prelude.{Bool, true, false, cond, List, [], ◌∷◌, eqb, ℕ, ◌≤◌}
+use Rattle.std.specs.Prelude.{Bool, List, eqb, ℕ, ◌≤◌, Option, Some, None}
+use Rattle.std.specs.List.{list_any}
 use Rattle.walks.specs.Walk.{Net}
 use Rattle.walks.specs.Rows.{Rows, Sound}
 use Rattle.walks.specs.Least.{Reached, Dist}
 use Rattle.walks.specs.Route.{Route}
-use Rattle.reasons.specs.declared.shortest.Way.{Way}
-use Rattle.reasons.specs.declared.shortest.Way.TheVariants.{Leads, Cut}
 
 -- d(s,t), or that t cannot be reached
-abbrev pub IsWay : Net → ℕ → ℕ → Way → Type 0
-IsWay N s t (Leads length) = (length ≤ 511_000_000) × Dist N s t length
-IsWay N s t Cut = ¬ Reached N s t
+abbrev pub IsWay : Net → ℕ → ℕ → Option ℕ → Type 0
+IsWay N s t (Some length) = (length ≤ 511_000_000) × Dist N s t length
+IsWay N s t None = ¬ Reached N s t
 
 -- whether v is one of a list's numbers
 unfoldable pub is_among : ℕ → List ℕ → Bool
-is_among v [] = false
-is_among v (u ∷ us) = cond (eqb v u) true (is_among v us)
+is_among v us = list_any (λ u. eqb u v) us
 
 -- a question that was judged fine: s and t are nodes, and e is an arc's number
 pub record Asked (n m : ℕ) (R : Rows) (s t e : ℕ) : Type 0 where

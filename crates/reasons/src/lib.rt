@@ -1,77 +1,50 @@
 // "Why not by the bridge?": the reason that an arc is not on the route.
 #![tactic(auto)]
 
-ghost use Rattle.walks.specs.Rows.{rows};
+ghost use Rattle.walks.specs.Lent.{rows_of};
 ghost use Rattle.reasons.specs.Paper.{paper};
 ghost use Rattle.reasons.specs.Says.{WhySays};
 
 use explain::explain;
-use passing::{Lamp, Tests, Toward};
-use rules::{Judged, Refusal};
-use search::Answer;
+use judging::judge_why;
+use passing::Sieve;
+use rules::Refusal;
 use search::find::find;
+use settling::task::Task;
+use walks::Network;
 
 mod explain;
 mod shortest;
 
 // Why an arc is not on the route: it is closed; no walk leads over it; the best walk over it is longer, by the excess; another
-// walk as short was picked; or it is on the route. Or why the question was refused.
-#[derive(Drop)]
-pub enum WhyNot {
+// walk as short was picked; or it is on the route.
+#[derive(Clone, Copy)]
+pub enum Reason {
     Closed,
     CutOff,
     Longer { excess: u32 },
     Tied,
     OnRoute,
-    Refused(Refusal),
 }
 
-// Why the route from `s` to `t`, by all open arcs, does not use an arc: the first reason that is true.
-pub fn why(
-    n: u32,
-    m: u32,
-    tails: &[u32],
-    heads: &[u32],
-    weights: &[u32],
-    closures: &[u8],
-    s: u32,
-    t: u32,
-    arc: u32,
-) -> WhyNot
-    ensures { WhySays n m (rows tails.now heads.now weights.now closures.now) s t arc (paper result) }
+// Why the route from `s` to `t`, by all open arcs, does not use an arc: the first reason that is true. Or why the question was refused.
+pub fn why(net: Network, s: u32, t: u32, arc: u32) -> Result<Reason, Refusal>
+    ensures { WhySays net.entry.n net.entry.m (rows_of net.entry) s t arc (paper result) }
 {
-    let j = judging::judge_why(n, m, tails, heads, weights, closures, s, t, arc);
-    let Judged::Refused(r) = j else {
-        // of no arc is a box or a mask asked
-        let boxes = [0i32; 1];
-        let masks = [0u32; 1];
-        let tests = Tests {
-            plain: true,
-            toward: Toward::Anywhere,
-            lamp: Lamp::Any,
-        };
-        let mut route = [0u32; 512];
-        let a = find(
-            n as usize, m as usize, tails, heads, weights, closures, tests, &boxes, &masks,
-            s as usize, t as usize, &mut route,
-        );
-        return match a {
-            Answer::Refused(r) => WhyNot::Refused(r),
-            Answer::Found { length, arcs, .. } => explain(
-                n as usize,
-                m as usize,
-                tails,
-                heads,
-                weights,
-                closures,
-                s as usize,
-                t as usize,
-                arc,
-                length,
-                &route,
-                arcs as usize,
-            ),
-        };
-    };
-    WhyNot::Refused(r)
+    judge_why(net, s, t, arc)?;
+    let tracks = net.tracks();
+    let (s, t) = (s as usize, t as usize);
+    let sieve = Sieve::open();
+    let mut route = [0; 512];
+    let found = find(
+        Task {
+            s,
+            t,
+            tracks,
+            sieve,
+        },
+        &mut route,
+    )?;
+    let arcs = &route[..found.arcs as usize];
+    Ok(explain(tracks, s, t, arc, found.length, arcs))
 }

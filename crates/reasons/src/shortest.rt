@@ -1,46 +1,28 @@
 // Shortest lengths, by all open arcs.
 ghost use Rattle.std.specs.Prelude.{◌≤◌};
-ghost use Rattle.walks.specs.Rows.{rows, network, Sound};
+ghost use Rattle.walks.specs.Rows.{network};
+ghost use Rattle.walks.specs.Judged.{rows_in};
 ghost use Rattle.reasons.specs.Steps.{IsWay};
 
-use passing::{Lamp, Tests, Toward};
+use passing::Sieve;
 use settling::run::run;
+use settling::task::Task;
+use walks::tracks::Tracks;
 
-// The length of a shortest walk, or that there is no walk.
-#[derive(Drop)]
-pub enum Way {
-    Leads(u32),
-    Cut,
-}
-
-// The shortest way from `s` to `t` by all open arcs. With tails and heads swapped: from `t` to `s`.
-pub fn shortest(
-    s: usize,
-    t: usize,
-    n: usize,
-    m: usize,
-    tails: &[u32],
-    heads: &[u32],
-    weights: &[u32],
-    closures: &[u8],
-) -> Way
-    requires { Sound n m (rows tails.now heads.now weights.now closures.now) × (1 ≤ s) × (s ≤ n) × (1 ≤ t) × (t ≤ n) }
-    ensures { IsWay (network m (rows tails.now heads.now weights.now closures.now)) s t result }
+// The length of a shortest walk from `s` to `t` by all open arcs, if there is a walk.
+pub fn shortest(s: usize, t: usize, tracks: Tracks) -> Option<u32>
+    requires { (1 ≤ s) × (s ≤ tracks.n) × (1 ≤ t) × (t ≤ tracks.n) }
+    ensures { IsWay (network tracks.entry.m (rows_in tracks.entry)) s t result }
 {
-    // of no arc is a box or a mask asked
-    let boxes = [0i32; 1];
-    let masks = [0u32; 1];
-    let tests = Tests {
-        plain: true,
-        toward: Toward::Anywhere,
-        lamp: Lamp::Any,
-    };
-    let o = run(
-        s, t, n, m, tails, heads, weights, closures, tests, &boxes, &masks,
-    );
-    let labels = o.labels;
-    if !o.found {
-        return Way::Cut;
+    let sieve = Sieve::open();
+    let outcome = run(Task {
+        s,
+        t,
+        tracks,
+        sieve,
+    });
+    if !outcome.found {
+        return None;
     }
-    Way::Leads(labels.length[t - 1])
+    Some(outcome.labels.length[t - 1])
 }

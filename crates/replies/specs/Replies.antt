@@ -1,22 +1,18 @@
 -- What the console replies, one line each.
-use Rattle.std.specs.Prelude.{ℕ, List, ◌++◌, take}
+use Rattle.std.specs.Prelude.{ℕ, List, ◌++◌, take, Result, Ok, Err}
 use Rattle.scan.specs.Ascii.{bytes}
-use Rattle.rules.specs.declared.Judged.{Judged}
-use Rattle.rules.specs.declared.Judged.TheVariants.{Fine, Refused}
+use Rattle.rules.specs.Judging.{Judged}
+use Rattle.rules.specs.declared.Refusal.{Refusal}
 use Rattle.scan.specs.Decimal.{decimal}
 use Rattle.pages.specs.Spaced.{counts_text}
 use Rattle.wording.specs.Refusals.{refusal_line}
 use Rattle.commands.specs.declared.Fault.{Fault}
 use Rattle.commands.specs.declared.Fault.TheVariants.{LongLine, EmptyLine, ControlByte, EmptyWord, NoCommand, WordCount, NoRow, LongRow, Misspelt, BeyondType, FewerLent}
 use Rattle.listing.specs.Journeys.{totals_text}
-use Rattle.daylist.specs.declared.Day.{Day}
-use Rattle.daylist.specs.declared.Day.TheVariants as day
-use Rattle.search.specs.declared.Answer.{Answer}
-use Rattle.search.specs.declared.Answer.TheVariants as answer
-use Rattle.reasons.specs.declared.WhyNot.{WhyNot}
-use Rattle.reasons.specs.declared.WhyNot.TheVariants as why
-use Rattle.writing.specs.declared.WriteReply.{WriteReply}
-use Rattle.writing.specs.declared.WriteReply.TheVariants as write
+use Rattle.daylist.specs.declared.Totals.{Totals}
+use Rattle.search.specs.declared.Found.{Found}
+use Rattle.reasons.specs.declared.Reason.{Reason}
+use Rattle.reasons.specs.declared.Reason.TheVariants.{Closed, CutOff, Longer, Tied, OnRoute}
 
 unfoldable pub ok_line : List ℕ
 ok_line = bytes "ok\n"
@@ -28,45 +24,45 @@ help_line =
 
 -- `build`, `check`, `update`: `ok`, or why the call was refused
 unfoldable pub judged_line : Judged → List ℕ
-judged_line Fine = ok_line
-judged_line (Refused r) = refusal_line r
+judged_line (Ok _) = ok_line
+judged_line (Err r) = refusal_line r
 
 -- `gr`: n and m of the file
 unfoldable pub sizes_line : ℕ → ℕ → List ℕ
 sizes_line n m = bytes "ok " ++ decimal n ++ bytes " " ++ decimal m ++ bytes "\n"
 
 -- `p2p`: how many queries had a route, how many had none, and the sum of the lengths; or why the list was refused
-unfoldable pub day_line : Day → List ℕ
-day_line (day.Ran found without sum) = bytes "ok " ++ totals_text found without sum
-day_line (day.Refused r) = refusal_line r
+unfoldable pub day_line : Result Totals Refusal → List ℕ
+day_line (Ok totals) = bytes "ok " ++ totals_text totals.found totals.none totals.sum
+day_line (Err r) = refusal_line r
 
 -- `search`, `boxed`: length, arc count, settled count and the route's arcs; or why the search was refused
-unfoldable pub answer_line : Answer → List ℕ → List ℕ
-answer_line (answer.Found length arcs settled) route =
+unfoldable pub answer_line : Result Found Refusal → List ℕ → List ℕ
+answer_line (Ok found) route =
     bytes "ok "
-    ++ decimal length
+    ++ decimal found.length
     ++ bytes " "
-    ++ decimal arcs
+    ++ decimal found.arcs
     ++ bytes " "
-    ++ decimal settled
-    ++ counts_text (take arcs route)
+    ++ decimal found.settled
+    ++ counts_text (take found.arcs route)
     ++ bytes "\n"
-answer_line (answer.Refused r) route = refusal_line r
+answer_line (Err r) route = refusal_line r
 
 -- `why`: the reason's number and its words, with the excess where the best way is longer; or why the question was refused
-unfoldable pub reason_line : WhyNot → List ℕ
-reason_line why.Closed = bytes "ok 1 (the track is closed)\n"
-reason_line why.CutOff = bytes "ok 2 (its start cannot be reached, or the target not from its end)\n"
-reason_line (why.Longer excess) =
+unfoldable pub reason_line : Result Reason Refusal → List ℕ
+reason_line (Ok Closed) = bytes "ok 1 (the track is closed)\n"
+reason_line (Ok CutOff) = bytes "ok 2 (its start cannot be reached, or the target not from its end)\n"
+reason_line (Ok (Longer excess)) =
     bytes "ok 3 " ++ decimal excess ++ bytes " (the best way through it is longer by " ++ decimal excess ++ bytes ")\n"
-reason_line why.Tied = bytes "ok 4 (an equally short way uses it, and the tie rule picked another)\n"
-reason_line why.OnRoute = bytes "ok 5 (it is on the route)\n"
-reason_line (why.Refused r) = refusal_line r
+reason_line (Ok Tied) = bytes "ok 4 (an equally short way uses it, and the tie rule picked another)\n"
+reason_line (Ok OnRoute) = bytes "ok 5 (it is on the route)\n"
+reason_line (Err r) = refusal_line r
 
 -- `write`, `save`: the text's length, or why the writer refused
-unfoldable pub written_line : WriteReply → List ℕ
-written_line (write.Written length) = bytes "ok " ++ decimal length ++ bytes "\n"
-written_line (write.Refused r) = refusal_line r
+unfoldable pub written_line : Result ℕ Refusal → List ℕ
+written_line (Ok length) = bytes "ok " ++ decimal length ++ bytes "\n"
+written_line (Err r) = refusal_line r
 
 -- `save` where the file cannot be written
 unfoldable pub unsaved_line : List ℕ

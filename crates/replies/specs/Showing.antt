@@ -1,23 +1,21 @@
 -- What `show` replies.
-use Rattle.std.specs.Prelude.{ℕ, List, ◌++◌, cond, ltb, length, take}
+use Rattle.std.specs.Prelude.{ℕ, List, ◌++◌, cond, ltb, length, take, Option, Some, None}
 use Rattle.scan.specs.Ascii.{bytes}
 use Rattle.scan.specs.Decimal.{decimal, whole}
 use Rattle.pages.specs.Spaced.{spaced}
 use Rattle.commands.specs.declared.Fault.TheVariants.{FewerLent}
-use Rattle.commands.specs.declared.Shown.{Shown}
-use Rattle.commands.specs.declared.Shown.TheVariants.{All, First}
 use Rattle.commands.specs.declared.rows.Row.{Row}
 use Rattle.commands.specs.declared.rows.Kind.{Kind}
 use Rattle.commands.specs.declared.rows.Kind.TheVariants.{Counts, Numbers, Bytes}
-use Rattle.commands.specs.Rows.{Value, stretch_of, kind_of, name_of}
-use Rattle.lending.specs.Stores.{Stores, store_of, part_at}
-use Rattle.lending.specs.declared.rows.Lent.{Lent}
+use Rattle.commands.specs.Rows.{Value, kind_of, name_of}
+use Rattle.lending.specs.Stores.{row}
+use Rattle.lending.specs.declared.Desk.{Desk}
 use Rattle.replies.specs.Replies.{fault_line}
 
 -- how many places of a row are to be shown, where so many are lent
-abbrev pub how_many : Shown → ℕ → ℕ
-how_many All lent = lent
-how_many (First k) lent = k
+abbrev pub how_many : Option ℕ → ℕ → ℕ
+how_many None lent = lent
+how_many (Some k) lent = k
 
 -- the row's name and its first k values, each after a space; or that fewer are lent
 unfoldable pub first_shown : {A : Type 0} → (A → List ℕ) → List ℕ → List A → ℕ → List ℕ
@@ -29,12 +27,6 @@ text_of Counts v = decimal v
 text_of Numbers v = whole v
 text_of Bytes v = decimal v
 
--- a row whose values are of a kind
-abbrev pub shown_as : Kind → Row → Shown → Lent → Stores → List ℕ
-shown_as kind r shown lent s =
-    let values = part_at lent (stretch_of r) (store_of kind s) in
-    first_shown (text_of kind) (name_of r) values (how_many shown (length values))
-
 -- what is shown of a row's lent places
-abbrev pub show_line : Row → Shown → Lent → Stores → List ℕ
-show_line r shown lent s = shown_as (kind_of r) r shown lent s
+abbrev pub show_line : Row → Option ℕ → Desk → List ℕ
+show_line r shown d = first_shown (text_of (kind_of r)) (name_of r) (row r d) (how_many shown (length (row r d)))

@@ -1,90 +1,83 @@
 // The answers that hold numbers: of a search, of a graph file, of a day's list, and of a text that is written.
 ghost use Rattle.std.specs.Prelude.{◌≤◌, ◌≡◌, length, take};
-ghost use Rattle.pages.specs.Page.{Puts};
 ghost use Rattle.replies.specs.Replies.{sizes_line, day_line, answer_line, written_line};
 
-use daylist::Day;
+use daylist::Totals;
 use listing::journeys::put_totals;
-use pages::rows::put_counts;
-use pages::{PAGE, put, put_after, put_decimal};
-use search::Answer;
+use pages::{PAGE, Page};
+use rules::{Refusal, Sizes};
+use search::Found;
 use wording::put_refusal;
-use writing::WriteReply;
 
 // The first k places of a row, or all where there are fewer.
 fn first_places(row: &[u32], k: usize) -> &[u32]
     ensures result_value { result.now ≡ take k row.now }
     ensures result_in_bounds { length result.now ≤ length row.now }
 {
-    if k < row.len() {
-        return &row[..k];
-    }
-    row
+    &row[..k.min(row.len())]
 }
 
 // `ok`, length, arcs, settled and the route's arcs; or why a search was refused.
-pub fn put_answer(page: &mut [u8; PAGE], answer: Answer, route: &[u32]) -> usize
+#[tactic(auto, unfolding(crate::specs::Replies::answer_line, scan::specs::Ascii::bytes))]
+pub fn put_answer(page: &mut Page<PAGE>, answer: Result<Found, Refusal>, route: &[u32])
     requires { length route.now ≤ 16384 }
-    ensures puts { Puts (answer_line answer route.now) 0 page.old result page.new }
-    ensures upper_bound { result ≤ 368640 }
+    ensures { page.new ≡ answer_line answer route.now }
 {
     match answer {
-        Answer::Found {
-            length,
-            arcs,
-            settled,
-        } => {
-            let a = put_after(page, 0, b"ok ", length);
-            let b = put_after(page, a, b" ", arcs);
-            let c = put_after(page, b, b" ", settled);
-            let d = put_counts(page, c, first_places(route, arcs as usize));
-            return put(page, d, b"\n");
+        Ok(found) => {
+            page.start(b"ok ");
+            page.put_number(found.length);
+            page.put(b" ");
+            page.put_number(found.arcs);
+            page.put(b" ");
+            page.put_number(found.settled);
+            page.put_row(first_places(route, found.arcs as usize));
+            page.put(b"\n");
         }
-        Answer::Refused(r) => {
-            return put_refusal(page, r);
-        }
+        Err(refusal) => put_refusal(page, refusal),
     }
 }
 
 // `ok` and the numbers n and m of a graph file.
-pub fn put_sizes(page: &mut [u8; PAGE], n: u32, m: u32) -> usize
-    ensures puts { Puts (sizes_line n m) 0 page.old result page.new }
-    ensures upper_bound { result ≤ 1000 }
+#[tactic(auto, unfolding(crate::specs::Replies::sizes_line, scan::specs::Ascii::bytes))]
+pub fn put_sizes(page: &mut Page<PAGE>, sizes: Sizes)
+    ensures text { page.new ≡ sizes_line sizes.n sizes.m }
+    ensures few { length page.new ≤ 1000 }
 {
-    let a = put_after(page, 0, b"ok ", n);
-    let b = put_after(page, a, b" ", m);
-    put(page, b, b"\n")
+    page.start(b"ok ");
+    page.put_number(sizes.n);
+    page.put(b" ");
+    page.put_number(sizes.m);
+    page.put(b"\n");
 }
 
 // `ok` and the totals of a day's list, or why it was refused.
-pub fn put_day(page: &mut [u8; PAGE], day: Day) -> usize
-    ensures puts { Puts (day_line day) 0 page.old result page.new }
-    ensures upper_bound { result ≤ 1000 }
+#[tactic(auto, unfolding(crate::specs::Replies::day_line, scan::specs::Ascii::bytes))]
+pub fn put_day(page: &mut Page<PAGE>, day: Result<Totals, Refusal>)
+    ensures text { page.new ≡ day_line day }
+    ensures few { length page.new ≤ 1000 }
 {
     match day {
-        Day::Ran { found, none, sum } => {
-            let a = put(page, 0, b"ok ");
-            return put_totals(page, a, found, none, sum);
+        Ok(totals) => {
+            page.start(b"ok ");
+            put_totals(page, totals.found, totals.none, totals.sum);
         }
-        Day::Refused(r) => {
-            return put_refusal(page, r);
-        }
+        Err(refusal) => put_refusal(page, refusal),
     }
 }
 
 // `ok` and the length of a text that is written, or why it is refused.
-pub fn put_written(page: &mut [u8; PAGE], reply: WriteReply) -> usize
-    ensures puts { Puts (written_line reply) 0 page.old result page.new }
-    ensures upper_bound { result ≤ 1000 }
+#[tactic(auto, unfolding(crate::specs::Replies::written_line, scan::specs::Ascii::bytes))]
+pub fn put_written(page: &mut Page<PAGE>, reply: Result<usize, Refusal>)
+    ensures text { page.new ≡ written_line reply }
+    ensures few { length page.new ≤ 1000 }
 {
     match reply {
-        WriteReply::Written(bytes) => {
-            let a = put(page, 0, b"ok ");
-            let b = put_decimal(page, a, bytes as u64);
-            return put(page, b, b"\n");
+        Ok(length) => {
+            page.start(b"ok ");
+            page.put_number(length as u64);
+            page.put(b"\n");
         }
-        WriteReply::Refused(r) => {
-            return put_refusal(page, r);
-        }
+        Err(refusal) => put_refusal(page, refusal),
     }
 }

@@ -1,4 +1,3 @@
 pub mod AndLaws
 pub mod JudgingLaws
 pub mod PaperLaws
-pub mod ToldLaws

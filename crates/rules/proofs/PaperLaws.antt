@@ -8,11 +8,11 @@ use lib.ListN.{length}
 use denote.Struct.Field.{Field, u32-field}
 use denote.Struct.Values.{Values}
 use denote.Enum.Declared.{Choice}
+use Rattle.rules.specs.Judging.{Judged}
 use Rattle.rules.specs.Paper.{Reply, refusal, judged_reply}
 use Rattle.rules.specs.declared.Refusal.{Refusal}
 use Rattle.rules.specs.declared.Refusal.TheVariants.{TextTooLong, RowTooShort, EmptyLine, OutOfOrder, BeyondLimits, CountsDisagree, NodeAgain, BadArc, BadCoordinate, BadBox, NotInNetwork, NoWalk, Misses, BadClosure, NoLetter, Misspelt, FieldCount, BadModule}
-use Rattle.rules.specs.declared.Judged.{Judged}
-use Rattle.rules.specs.declared.Judged.TheVariants.{Fine, Refused}
+use Rattle.std.specs.Prelude.{Ok, Err}
 use Rattle.rules.specs.contracts.Refusal.{the_parts as parts, as_values, the_make as make, the_eta as eta}
 
 -- cases that hold so many numbers each
@@ -86,7 +86,7 @@ pub refusal_injective : (a b : Refusal) → refusal a ≡ refusal b → a ≡ b
 refusal_injective a b e = sym (eta a) ∙ ap make (in_order_one (sizes parts) 1 (as_values a) (as_values b) (sym (table_order a) ∙ e ∙ table_order b)) ∙ eta b
 
 pub judged_injective : (a b : Judged) → judged_reply a ≡ judged_reply b → a ≡ b
-judged_injective Fine Fine e = refl
-judged_injective Fine (Refused r) e = absurd (refusal_nonzero r (ap (λ (x : Reply). x.number) e))
-judged_injective (Refused r) Fine e = absurd (refusal_nonzero r (ap (λ (x : Reply). x.number) (sym e)))
-judged_injective (Refused a) (Refused b) e = ap Refused (refusal_injective a b e)
+judged_injective (Ok _) (Ok _) e = refl
+judged_injective (Ok _) (Err r) e = absurd (refusal_nonzero r (ap (λ (x : Reply). x.number) e))
+judged_injective (Err r) (Ok _) e = absurd (refusal_nonzero r (ap (λ (x : Reply). x.number) (sym e)))
+judged_injective (Err a) (Err b) e = ap Err (refusal_injective a b e)

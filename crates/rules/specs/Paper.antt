@@ -1,9 +1,8 @@
 -- What the paper says of each refusal: its number, and the values that are returned with it.
-use Rattle.std.specs.Prelude.{ℕ, Bool, ◌&&◌, ◌||◌, List, [], ◌∷◌, eqb, leb}
+use Rattle.std.specs.Prelude.{ℕ, Bool, ◌&&◌, ◌||◌, List, [], ◌∷◌, eqb, leb, Ok, Err}
 use Rattle.rules.specs.declared.Refusal.{Refusal}
 use Rattle.rules.specs.declared.Refusal.TheVariants.{TextTooLong, RowTooShort, EmptyLine, OutOfOrder, BeyondLimits, CountsDisagree, NodeAgain, BadArc, BadCoordinate, BadBox, NotInNetwork, NoWalk, Misses, BadClosure, NoLetter, Misspelt, FieldCount, BadModule}
-use Rattle.rules.specs.declared.Judged.{Judged}
-use Rattle.rules.specs.declared.Judged.TheVariants.{Fine, Refused}
+use Rattle.rules.specs.Judging.{Judged}
 
 -- A reply as the paper has it: a number and values. 0 with the results where a call is accepted, else the refusal's number with its values.
 pub record Reply : Type 0 where
@@ -52,5 +51,5 @@ accepted results = record { number = 0; values = results }
 
 -- a step that only judges
 abbrev pub judged_reply : Judged → Reply
-judged_reply Fine = accepted []
-judged_reply (Refused r) = refusal r
+judged_reply (Ok _) = accepted []
+judged_reply (Err r) = refusal r

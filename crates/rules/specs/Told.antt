@@ -1,12 +1,8 @@
 -- A refusal's number and values as the code hands them on.
-use Rattle.std.specs.Prelude.{[], ◌∷◌, ◌++◌, length, take}
+use Rattle.std.specs.Prelude.{◌≡◌, take}
 use Rattle.rules.specs.Paper.{Reply}
-use Rattle.rules.specs.declared.Told.{Told}
+use Rattle.rules.specs.declared.told.Told.{Told}
 
--- the values stand first, zeros after them
-abbrev pub told_of : Reply → Told
-told_of reply = record {
-  number = reply.number;
-  count = length reply.values;
-  values = take 3 (reply.values ++ (0 ∷ 0 ∷ 0 ∷ []));
-}
+-- what is told is a reply's number and its values
+abbrev pub Tells : Told → Reply → Type 0
+Tells told reply = (told.number ≡ reply.number) × (take told.count told.places ≡ reply.values)

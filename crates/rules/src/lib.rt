@@ -1,9 +1,14 @@
 // The limits of the route box and its numbered refusals, shared by every part.
 #![tactic(auto)]
 
-ghost use Rattle.std.specs.Prelude.{◌≤◌, ◌≡◌, [], ◌∷◌};
+mod told;
+
+ghost use Rattle.std.specs.Prelude.{◌≡◌};
 ghost use Rattle.rules.specs.Paper.{refusal, number_of, place_of, tells_column};
-ghost use Rattle.rules.specs.Told.{told_of};
+ghost use Rattle.rules.specs.Told.{Tells};
+
+pub use told::Told;
+use told::tell;
 
 // At most so many nodes and arcs.
 pub const NODES: u32 = 512;
@@ -75,85 +80,60 @@ pub struct Asked {
     pub masks: bool,
 }
 
-// What a step that only judges answers.
-#[derive(Drop)]
-pub enum Judged {
-    Fine,
-    Refused(Refusal),
+impl Asked {
+    // Boxes alone.
+    pub const BOXES: Asked = Asked {
+        boxes: true,
+        masks: false,
+    };
 }
 
-// A refusal as the paper tells it: its number, and so many values, which stand first; the other places hold 0.
-#[derive(Drop)]
-pub struct Told {
-    pub number: u32,
-    pub count: usize,
-    pub values: [u32; 3],
+// The numbers that are lent with the rows: how many nodes and arcs there are.
+#[derive(Clone, Copy)]
+pub struct Sizes {
+    pub n: u32,
+    pub m: u32,
 }
 
-// A number without values, with one, with two.
-fn alone(number: u32) -> Told
-    ensures { result ≡ told_of (record { number = number; values = [] }) }
-{
-    Told {
-        number,
-        count: 0,
-        values: [0, 0, 0],
-    }
-}
-
-fn with(number: u32, a: u32) -> Told
-    ensures { result ≡ told_of (record { number = number; values = a ∷ [] }) }
-{
-    Told {
-        number,
-        count: 1,
-        values: [a, 0, 0],
-    }
-}
-
-fn with_two(number: u32, a: u32, b: u32) -> Told
-    ensures { result ≡ told_of (record { number = number; values = a ∷ b ∷ [] }) }
-{
-    Told {
-        number,
-        count: 2,
-        values: [a, b, 0],
-    }
+// What an update writes: an arc's new weight and its new closure.
+#[derive(Clone, Copy)]
+pub struct Change {
+    pub arc: u32,
+    pub weight: u32,
+    pub closure: u8,
 }
 
 impl Refusal {
     // The paper's number of a refusal and its values.
     pub fn told(self) -> Told
-        ensures value { result ≡ told_of (refusal self) }
-        ensures count_bound { result.count ≤ 3 }
+        ensures { Tells result (refusal self) }
     {
         match self {
-            Refusal::TextTooLong => alone(1),
-            Refusal::RowTooShort => alone(2),
-            Refusal::EmptyLine { line, column } => with_two(3, line, column),
-            Refusal::OutOfOrder { line } => with(4, line),
-            Refusal::BeyondLimits { line } => with(5, line),
-            Refusal::CountsDisagree { line } => with(6, line),
-            Refusal::NodeAgain { line } => with(7, line),
-            Refusal::BadArc { arc } => with(8, arc),
-            Refusal::BadCoordinate { node } => with(9, node),
-            Refusal::BadBox { arc } => with(10, arc),
-            Refusal::NotInNetwork => alone(11),
-            Refusal::NoWalk { settled } => with(12, settled),
-            Refusal::Misses { arc, node } => with_two(13, arc, node),
-            Refusal::BadClosure { arc } => with(14, arc),
-            Refusal::NoLetter { line, column } => with_two(15, line, column),
-            Refusal::Misspelt { line, column } => with_two(16, line, column),
-            Refusal::FieldCount { line, column } => with_two(17, line, column),
-            Refusal::BadModule { node } => with(18, node),
+            Refusal::TextTooLong => tell(1, []),
+            Refusal::RowTooShort => tell(2, []),
+            Refusal::EmptyLine { line, column } => tell(3, [line, column]),
+            Refusal::OutOfOrder { line } => tell(4, [line]),
+            Refusal::BeyondLimits { line } => tell(5, [line]),
+            Refusal::CountsDisagree { line } => tell(6, [line]),
+            Refusal::NodeAgain { line } => tell(7, [line]),
+            Refusal::BadArc { arc } => tell(8, [arc]),
+            Refusal::BadCoordinate { node } => tell(9, [node]),
+            Refusal::BadBox { arc } => tell(10, [arc]),
+            Refusal::NotInNetwork => tell(11, []),
+            Refusal::NoWalk { settled } => tell(12, [settled]),
+            Refusal::Misses { arc, node } => tell(13, [arc, node]),
+            Refusal::BadClosure { arc } => tell(14, [arc]),
+            Refusal::NoLetter { line, column } => tell(15, [line, column]),
+            Refusal::Misspelt { line, column } => tell(16, [line, column]),
+            Refusal::FieldCount { line, column } => tell(17, [line, column]),
+            Refusal::BadModule { node } => tell(18, [node]),
         }
     }
 
     pub fn number(self) -> u32
         ensures { result ≡ number_of self }
     {
-        let told = self.told();
-        told.number
+        self.told().number
     }
 
     // Whether the values are a line and a column: 3, 15, 16 and 17.
@@ -169,6 +149,6 @@ impl Refusal {
         ensures { result ≡ place_of self }
     {
         let told = self.told();
-        told.values[0]
+        told.values().first().copied().unwrap_or(0)
     }
 }

@@ -3,106 +3,85 @@
 
 ghost use Rattle.std.specs.Prelude.{◌≤◌, length};
 
-use pages::put;
+use pages::Page;
 use std::fs::{OpenFile, OpenOptions};
-use std::io::Write;
+use std::io::{ErrorKind, Write};
 use std::rt::Files;
-use std::{fs, str};
+use std::{fs, io, str};
+
+// The longest name of a new file, in bytes.
+const NAME: usize = 4096;
+
+// A path as the file system takes it: it is UTF-8.
+fn named(path: &[u8]) -> io::Result<&str> {
+    str::from_utf8(path).or(Err(ErrorKind::InvalidInput.into()))
+}
 
 // How many bytes of a path name its folder: those up to its last slash.
 fn folder_end(path: &[u8]) -> usize
     ensures { result ≤ length path.now }
 {
-    let mut end = 0;
-    let mut i = 0;
-    while i < path.len() {
-        let is_slash = path[i] == b'/';
-        i += 1;
-        if is_slash {
-            end = i;
-        }
-    }
-    end
+    path.iter()
+        .rposition(|b| *b == b'/')
+        .map_or(0, |slash| slash + 1)
 }
 
 // Makes a file, where the name is free.
-fn create<R: Files>(rt: &R, name: &[u8]) -> Option<R::File> {
-    let name = str::from_utf8(name).ok()?;
+fn create<R: Files>(rt: &R, name: &[u8]) -> io::Result<R::File> {
     OpenOptions::new()
         .write(true)
         .create_new(true)
-        .open(rt, name)
-        .ok()
+        .open(rt, named(name)?)
 }
 
-// Makes a file whose name ends in the first letter that is free.
-fn make_new<R: Files>(rt: &R, name: &mut [u8]) -> Option<R::File>
-    requires { 1 ≤ length name.old }
+// Makes a file in a folder, whose name ends in the first letter that is free. The name stands on the page.
+fn make_new<R: Files>(rt: &R, folder: &[u8], name: &mut Page<NAME>) -> io::Result<R::File>
+    requires { length folder.now ≤ 4086 }
 {
-    let last = name.len() - 1;
-    let mut letter = b'a';
-    while letter <= b'z' {
-        name[last] = letter;
-        let made = create(rt, name);
-        if made.is_some() {
+    for letter in b'a'..=b'z' {
+        name.start(folder);
+        name.put(b".saving-");
+        name.put(&[letter]);
+        let made = create(rt, name.text());
+        if made.is_ok() {
             return made;
         }
-        letter += 1;
     }
-    None
+    Err(ErrorKind::AlreadyExists.into())
 }
 
-// Writes a text to a file, and answers whether all of it is there for good. The file is then closed.
-fn write_whole(mut file: impl OpenFile + Write + Drop, text: &[u8]) -> bool {
-    file.write_all(text).is_ok() && file.sync_all().is_ok()
+// Writes a text to a file, all of it and for good. The file is then closed.
+fn write_whole(mut file: impl OpenFile + Write + Drop, text: &[u8]) -> io::Result<()> {
+    file.write_all(text)?;
+    file.sync_all()
 }
 
-// Gives a file another's name, and answers whether it has it.
-fn rename(rt: &impl Files, name: &[u8], path: &[u8]) -> bool {
-    let Ok(name) = str::from_utf8(name) else {
-        return false;
-    };
-    let Ok(path) = str::from_utf8(path) else {
-        return false;
-    };
-    fs::rename(rt, name, path).is_ok()
+// Writes a text to a new file of this name, which then takes the name of the path.
+fn put_in_place<R: Files>(
+    rt: &R,
+    file: R::File,
+    name: &str,
+    path: &str,
+    text: &[u8],
+) -> io::Result<()> {
+    write_whole(file, text)?;
+    fs::rename(rt, name, path)
 }
 
-// Removes a file, if it can.
-fn remove(rt: &impl Files, name: &[u8]) {
-    if let Ok(name) = str::from_utf8(name) {
+// Saves a text as the file of this path; where that fails, an old file stays as it was, and the new one is gone. A path that is
+// not UTF-8 names no file.
+pub fn save_file(rt: &impl Files, path: &[u8], text: &[u8]) -> io::Result<()> {
+    let target = named(path)?;
+    let folder = &path[..folder_end(path)];
+    if 4086 < folder.len() {
+        return Err(ErrorKind::InvalidFilename.into());
+    }
+    let mut page = Page::new();
+    let file = make_new(rt, folder, &mut page)?;
+    let name = named(page.text())?;
+    let saved = put_in_place(rt, file, name, target, text);
+    if saved.is_err() {
         let _ = fs::remove_file(rt, name);
     }
-}
-
-// Saves a text by way of a new file of this name, and answers whether it is saved; where it is not, the new file is gone.
-fn save_by(rt: &impl Files, name: &mut [u8], path: &[u8], text: &[u8]) -> bool
-    requires { 1 ≤ length name.old }
-{
-    let Some(file) = make_new(rt, name) else {
-        return false;
-    };
-    if write_whole(file, text) {
-        if rename(rt, name, path) {
-            return true;
-        }
-    }
-    remove(rt, name);
-    false
-}
-
-// Saves a text as the file of this path, and answers whether it is saved; where it is not, an old file stays as it was. A path
-// that is not UTF-8 names no file.
-pub fn save_file(rt: &impl Files, path: &[u8], text: &[u8]) -> bool {
-    if str::from_utf8(path).is_err() {
-        return false;
-    }
-    let folder = folder_end(path);
-    if 4086 < folder {
-        return false;
-    }
-    let mut name = [0u8; 4096];
-    let a = put(&mut name, 0, &path[..folder]);
-    let end = put(&mut name, a, b".saving-a");
-    save_by(rt, &mut name[..end], path, text)
+    saved
 }

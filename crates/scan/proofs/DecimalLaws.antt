@@ -10,13 +10,9 @@ use lib.Dec.{eqb, leb, ltb}
 use lib.IntN.{ℤ, pos, negsuc}
 use lib.ListN.{length, get_or, drop, length-append}
 use borrow.Author.Tests.{eq-eqb, ne_eqb, le-leb, lt-ltb, le-ltb, leb-true, eqb-true, eqb-false}
-use Rattle.scan.specs.Numbers.{is_digit, value_from, unpadded, natural_of, plain, negated, integer_of}
+use Rattle.std.specs.Prelude.{Option, Some, None, option_map}
+use Rattle.scan.specs.Numbers.{is_digit, value_from, unpadded, natural_of, negated, integer_of}
 use Rattle.scan.specs.Decimal.{spelt, decimal, whole}
-use Rattle.scan.specs.declared.numbers.Natural.{Natural}
-use Rattle.scan.specs.declared.numbers.Natural.TheVariants.{Number, NoNumber}
-use Rattle.scan.specs.Fields.{taken_integer}
-use Rattle.scan.specs.declared.holding.Value.TheVariants.{Signed}
-use Rattle.scan.specs.declared.fields.Field.TheVariants.{Taken}
 
 -- ---- the text of a number by its last digit
 
@@ -43,20 +39,20 @@ digit_on : (v b : ℕ) (t : List ℕ) → 48 ≤ b → b ≤ 57 → value_from v
 unfolding value_from
 digit_on v b t h k = rw (le-leb 48 b h, le-leb b 57 k)
 
-value_both : (a b : List ℕ) (v u : ℕ) → value_from v a ≡ Number u → value_from v (a ++ b) ≡ value_from u b
+value_both : (a b : List ℕ) (v u : ℕ) → value_from v a ≡ Some u → value_from v (a ++ b) ≡ value_from u b
 unfolding value_from
 value_both [] b v u e = let s : v ≡ u = cc in ap (λ (x : ℕ). value_from x b) s
 value_both (c ∷ a) b v u e = by_digit (is_digit c) e (value_both a b (10 * v + (c - 48)) u)
   where
-    by_digit : (z : Bool) → cond z (value_from (10 * v + (c - 48)) a) NoNumber ≡ Number u
-        → (value_from (10 * v + (c - 48)) a ≡ Number u → value_from (10 * v + (c - 48)) (a ++ b) ≡ value_from u b)
-        → cond z (value_from (10 * v + (c - 48)) (a ++ b)) NoNumber ≡ value_from u b
+    by_digit : (z : Bool) → cond z (value_from (10 * v + (c - 48)) a) None ≡ Some u
+        → (value_from (10 * v + (c - 48)) a ≡ Some u → value_from (10 * v + (c - 48)) (a ++ b) ≡ value_from u b)
+        → cond z (value_from (10 * v + (c - 48)) (a ++ b)) None ≡ value_from u b
     by_digit true p ih = ih p
-    by_digit false p ih = absurd (let z : ◌≡◌ {A = ℕ} 0 1 = cc in omega arith)
+    by_digit false p ih = cc
 
 -- what holds of the text of n
 pub record Spelling (n : ℕ) (s : List ℕ) : Type 0 where
-  pub value : value_from 0 s ≡ Number n
+  pub value : value_from 0 s ≡ Some n
   pub some : 1 ≤ length s
   pub single : n < 10 → length s ≡ 1
   pub leads : 1 ≤ n → get_or s 0 0 ≡ 48 → ⊥
@@ -75,7 +71,7 @@ get_or-last (b ∷ a) c = get_or-last a c
 spelling_one : (n : ℕ) → n < 10 → Spelling n ((48 + n) ∷ [])
 unfolding value_from
 spelling_one n h = record {
-  value = rw (le-leb 48 (48 + n) (omega arith), le-leb (48 + n) 57 (omega arith)) (ap Number (omega arith));
+  value = rw (le-leb 48 (48 + n) (omega arith), le-leb (48 + n) 57 (omega arith)) (ap Some (omega arith));
   some = omega arith;
   single = λ k. refl;
   leads = λ k e. omega arith;
@@ -88,7 +84,7 @@ unfolding value_from
 spelling_more n d s low h x =
     let long : length (s ++ ((48 + d) ∷ [])) ≡ length s + 1 = length-append s ((48 + d) ∷ []) in
     record {
-      value = value_both s ((48 + d) ∷ []) 0 n x.value ∙ rw (le-leb 48 (48 + d) (omega arith), le-leb (48 + d) 57 (omega arith)) (ap Number (omega arith));
+      value = value_both s ((48 + d) ∷ []) 0 n x.value ∙ rw (le-leb 48 (48 + d) (omega arith), le-leb (48 + d) 57 (omega arith)) (ap Some (omega arith));
       some = omega (arith, long);
       single = λ k. absurd (omega arith);
       leads = λ k e. x.leads low (sym (get_d_front s ((48 + d) ∷ []) 0 x.some) ∙ e);
@@ -114,7 +110,7 @@ spelling_below (suc f) n h = elim (dec_le 10 n) [
 pub spelling : (n : ℕ) → Spelling n (decimal n)
 spelling n = spelling_below (suc n) n (omega arith)
 
-pub natural_written : (n : ℕ) → natural_of (decimal n) ≡ Number n
+pub natural_written : (n : ℕ) → natural_of (decimal n) ≡ Some n
 unfolding natural_of
 natural_written n =
     let x = spelling n in
@@ -127,24 +123,24 @@ natural_written n =
     or_true true = refl
     or_true false = refl
 
-pub integer_written : (z : ℤ) → taken_integer (integer_of (whole z)) ≡ Taken (Signed z)
-unfolding integer_of whole plain negated taken_integer
+pub integer_written : (z : ℤ) → integer_of (whole z) ≡ Some z
+unfolding integer_of whole negated
 integer_written (pos n) =
     let x = spelling n in
     rw (ne_eqb (get_or (decimal n) 0 0) 45 (λ e. omega (arith, x.digit_low 0 x.some)), natural_written n)
-integer_written (negsuc n) = rw (natural_written (suc n), ne_eqb (suc n) 0 (λ e. omega arith))
+integer_written (negsuc n) = rw (natural_written (suc n))
 
 -- ---- what is read is written
 
-digit_in : (v b : ℕ) (t : List ℕ) (w : ℕ) → value_from v (b ∷ t) ≡ Number w → (48 ≤ b) × (b ≤ 57) × (value_from (10 * v + (b - 48)) t ≡ Number w)
+digit_in : (v b : ℕ) (t : List ℕ) (w : ℕ) → value_from v (b ∷ t) ≡ Some w → (48 ≤ b) × (b ≤ 57) × (value_from (10 * v + (b - 48)) t ≡ Some w)
 unfolding value_from
 digit_in v b t w e = by_tests (leb 48 b) (leb b 57) refl refl e
   where
-    by_tests : (p q : Bool) → leb 48 b ≡ p → leb b 57 ≡ q → cond (p && q) (value_from (10 * v + (b - 48)) t) NoNumber ≡ Number w
-        → (48 ≤ b) × (b ≤ 57) × (value_from (10 * v + (b - 48)) t ≡ Number w)
+    by_tests : (p q : Bool) → leb 48 b ≡ p → leb b 57 ≡ q → cond (p && q) (value_from (10 * v + (b - 48)) t) None ≡ Some w
+        → (48 ≤ b) × (b ≤ 57) × (value_from (10 * v + (b - 48)) t ≡ Some w)
     by_tests true true h k d = (leb-true _ _ h, leb-true _ _ k, d)
-    by_tests true false h k d = absurd (let z : ◌≡◌ {A = ℕ} 0 1 = cc in omega arith)
-    by_tests false q h k d = absurd (let z : ◌≡◌ {A = ℕ} 0 1 = cc in omega arith)
+    by_tests true false h k d = cc
+    by_tests false q h k d = cc
 
 decimal-next : (v d : ℕ) → 1 ≤ v → d < 10 → decimal (10 * v + d) ≡ decimal v ++ ((48 + d) ∷ [])
 decimal-next v d h k =
@@ -152,7 +148,7 @@ decimal-next v d h k =
     let b : (10 * v + d) % 10 ≡ d = omega arith in
     decimal_more (10 * v + d) (omega arith) ∙ rw (a, b)
 
-value_decimal : (t : List ℕ) (v w : ℕ) → 1 ≤ v → value_from v t ≡ Number w → decimal v ++ t ≡ decimal w
+value_decimal : (t : List ℕ) (v w : ℕ) → 1 ≤ v → value_from v t ≡ Some w → decimal v ++ t ≡ decimal w
 unfolding value_from
 value_decimal [] v w h e = let s : v ≡ w = cc in rw (append-nil (decimal v), s)
 value_decimal (b ∷ t) v w h e =
@@ -162,15 +158,15 @@ value_decimal (b ∷ t) v w h e =
     sym (append_assoc (decimal v) (b ∷ []) t) ∙ (ap (λ (l : List ℕ). l ++ t) (sym (rw back at (decimal-next v (b - 48) h (omega (arith, d.0, d.1))))) ∙ ih)
 
 -- a test that a number must pass
-number_in : (z : Bool) (x : Natural) (w : ℕ) → cond z x NoNumber ≡ Number w → (z ≡ true) × (x ≡ Number w)
+number_in : (z : Bool) (x : Option ℕ) (w : ℕ) → cond z x None ≡ Some w → (z ≡ true) × (x ≡ Some w)
 number_in true x w e = (refl, e)
-number_in false x w e = absurd (let z : ◌≡◌ {A = ℕ} 0 1 = cc in omega arith)
+number_in false x w e = cc
 
 pub and_in : (a b : Bool) → a && b ≡ true → (a ≡ true) × (b ≡ true)
 and_in true b e = (refl, e)
-and_in false b e = absurd (let z : ◌≡◌ {A = ℕ} 0 1 = ap (λ (q : Bool). cond q 1 0) e in omega arith)
+and_in false b e = cc
 
-read_first : (b : ℕ) (t : List ℕ) (w : ℕ) → (b ≡ 48 → ⊥) → value_from 0 (b ∷ t) ≡ Number w → b ∷ t ≡ decimal w
+read_first : (b : ℕ) (t : List ℕ) (w : ℕ) → (b ≡ 48 → ⊥) → value_from 0 (b ∷ t) ≡ Some w → b ∷ t ≡ decimal w
 read_first b t w h e =
     let d = digit_in 0 b t w e in
     let back : 48 + (b - 48) ≡ b = omega (arith, d.0) in
@@ -179,7 +175,7 @@ read_first b t w h e =
     let v = value_decimal t (b - 48) w low (rw plainly at d.2) in
     rw (decimal_one (b - 48) (omega (arith, d.1)), back) at v
 
-read_one : (b w : ℕ) → value_from 0 (b ∷ []) ≡ Number w → b ∷ [] ≡ decimal w
+read_one : (b w : ℕ) → value_from 0 (b ∷ []) ≡ Some w → b ∷ [] ≡ decimal w
 unfolding value_from
 read_one b w e =
     let d = digit_in 0 b [] w e in
@@ -193,9 +189,9 @@ not_padded false false h e = refl
 not_padded false true h e = sym e
 not_padded true q h e = let z : true ≡ false = h in cc
 
-pub natural_read : (s : List ℕ) (w : ℕ) → natural_of s ≡ Number w → s ≡ decimal w
+pub natural_read : (s : List ℕ) (w : ℕ) → natural_of s ≡ Some w → s ≡ decimal w
 unfolding natural_of
-natural_read [] w e = absurd (let z : ◌≡◌ {A = ℕ} 0 1 = cc in omega arith)
+natural_read [] w e = cc
 natural_read (b ∷ []) w e = read_one b w (number_in (unpadded (b ∷ [])) _ w e).1
 natural_read (b ∷ c ∷ t) w e =
     let s = b ∷ c ∷ t in
@@ -207,28 +203,25 @@ natural_read (b ∷ c ∷ t) w e =
 
 -- ---- the same for numbers that may have a minus
 
-plain_in : (n : Natural) (z : ℤ) → taken_integer (plain n) ≡ Taken (Signed z) → (v : ℕ) × (n ≡ Number v) × (z ≡ pos v)
-unfolding plain taken_integer
-plain_in (Number v) z e = (v, refl, cc)
-plain_in NoNumber z e = absurd (let q : ◌≡◌ {A = ℕ} 0 1 = cc in omega arith)
+plain_in : (n : Option ℕ) (z : ℤ) → option_map pos n ≡ Some z → (v : ℕ) × (n ≡ Some v) × (z ≡ pos v)
+plain_in (Some v) z e = (v, refl, cc)
+plain_in None z e = cc
 
-negated_in : (n : Natural) (z : ℤ) → taken_integer (negated n) ≡ Taken (Signed z) → (v : ℕ) × (n ≡ Number (suc v)) × (z ≡ negsuc v)
-unfolding negated taken_integer
-negated_in (Number zero) z e = absurd (let q : ◌≡◌ {A = ℕ} 0 1 = cc in omega arith)
-negated_in (Number (suc v)) z e =
-    let f : Taken (Signed (negsuc v)) ≡ Taken (Signed z) = rw (ne_eqb (suc v) 0 (λ k. omega arith)) at e in
-    (v, refl, cc)
-negated_in NoNumber z e = absurd (let q : ◌≡◌ {A = ℕ} 0 1 = cc in omega arith)
+negated_in : (n : Option ℕ) (z : ℤ) → negated n ≡ Some z → (v : ℕ) × (n ≡ Some (suc v)) × (z ≡ negsuc v)
+unfolding negated
+negated_in (Some zero) z e = cc
+negated_in (Some (suc v)) z e = (v, refl, cc)
+negated_in None z e = cc
 
 first_is : (s : List ℕ) (b : ℕ) → 1 ≤ b → get_or s 0 0 ≡ b → s ≡ b ∷ drop 1 s
 first_is [] b h e = absurd (omega arith)
 first_is (c ∷ t) b h e = rw e
 
-pub integer_read : (s : List ℕ) (z : ℤ) → taken_integer (integer_of s) ≡ Taken (Signed z) → s ≡ whole z
+pub integer_read : (s : List ℕ) (z : ℤ) → integer_of s ≡ Some z → s ≡ whole z
 unfolding integer_of whole
 integer_read s z e = by_test (eqb (get_or s 0 0) 45) refl e
   where
-    by_test : (q : Bool) → eqb (get_or s 0 0) 45 ≡ q → taken_integer (cond q (negated (natural_of (drop 1 s))) (plain (natural_of s))) ≡ Taken (Signed z) → s ≡ whole z
+    by_test : (q : Bool) → eqb (get_or s 0 0) 45 ≡ q → cond q (negated (natural_of (drop 1 s))) (option_map pos (natural_of s)) ≡ Some z → s ≡ whole z
     by_test true h d =
         let n = negated_in (natural_of (drop 1 s)) z d in
         rw n.2 (first_is s 45 (omega arith) (eqb-true _ _ h) ∙ ap (λ (t : List ℕ). 45 ∷ t) (natural_read (drop 1 s) (suc n.0) n.1))

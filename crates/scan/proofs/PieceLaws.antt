@@ -1,35 +1,27 @@
 -- Laws of a text's pieces, and of what the scanner sees from a position on.
+use Rattle.std.specs.Prelude.{Some, None, unwrap_or}
+use Rattle.std.specs.List.{position, position_or_len}
+use Rattle.std.proofs.lemmas.List.Recursion.{is_position_or_len}
 use mathlib.Core.Path.{◌≡◌, refl, sym, ap, ap₂, ◌∙◌}
 use mathlib.Core.Logic.{◌⊎◌, inl, inr, ⊎_elim}
 use mathlib.Core.List.{List, [], ◌∷◌}
-use mathlib.Core.Bool.{Bool, true, false, cond, ◌&&◌}
+use mathlib.Core.Bool.{Bool, true, false, cond}
 use Prim.Native.Nat.{ℕ, zero, suc, ◌+◌, ◌-◌, ◌≤◌, ◌<◌, zero-le, suc-le-suc}
 use native.Mathlib.Nat.{add_assoc, le_of_suc-le-suc, not-suc-le-zero, le_of_eq, le_trans, le-suc, eq-or-lt_of_le}
 use native.Mathlib.Numerals.{add-one}
 use native.Mathlib.Omega.{arith}
-use lib.Dec.{eqb}
+use native.Mathlib.Decide.{dec_le}
+use lib.Dec.{eqb, ltb}
 use lib.ListN.{length, get_or, take, drop, length-drop, drop_of_length-le}
 use lib.Seq.{drop-cons, drop-drop, take_all}
-use borrow.Author.Tests.{eq-eqb, ne_eqb}
-use Rattle.scan.specs.Pieces.{opening, pieces, first_at, same_bytes, fields_of}
+use borrow.Author.Tests.{lt-ltb, le-ltb}
+use Rattle.scan.specs.Pieces.{opening, pieces, first_at, fields_of}
 
 -- what stands from i on, by its first byte
 pub at_cons : (s : List ℕ) (i : ℕ) → i < length s → drop i s ≡ get_or s i 0 ∷ drop (i + 1) s
 at_cons s i h = rw (add-one, drop-cons s i 0)
 
 -- ---- the first byte sep
-
-pub first_hit : (sep : ℕ) (s : List ℕ) (i : ℕ) → i < length s → get_or s i 0 ≡ sep → first_at sep (drop i s) ≡ 0
-unfolding first_at
-first_hit sep s i h e = simp (at_cons s i h, eq-eqb _ _ e)
-
-pub first_miss : (sep : ℕ) (s : List ℕ) (i : ℕ) → i < length s → (get_or s i 0 ≡ sep → ⊥) → first_at sep (drop i s) ≡ suc (first_at sep (drop (i + 1) s))
-unfolding first_at
-first_miss sep s i h e = simp (at_cons s i h, ne_eqb _ _ e)
-
-pub first_end : (sep : ℕ) (s : List ℕ) (i : ℕ) → length s ≤ i → first_at sep (drop i s) ≡ 0
-unfolding first_at
-first_end sep s i h = simp (drop_of_length-le s h)
 
 pub first_le : (sep : ℕ) (s : List ℕ) → first_at sep s ≤ length s
 unfolding first_at
@@ -44,30 +36,19 @@ pub none_first : (s : List ℕ) → length s ≡ 0 → get_or s 0 0 ≡ 0
 none_first [] e = refl
 none_first (b ∷ t) e = absurd (omega arith)
 
--- ---- the same bytes
-
-pub same_long : (s t : List ℕ) → (length s ≡ length t → ⊥) → same_bytes s t ≡ false
-unfolding same_bytes
-same_long [] [] h = absurd (h refl)
-same_long [] (c ∷ t) h = refl
-same_long (b ∷ s) [] h = refl
-same_long (b ∷ s) (c ∷ t) h = rw (same_long s t (λ e. h (ap suc e))) (and_false (eqb b c))
+-- the first byte sep, as `position` finds it
+pub first_position : (sep : ℕ) (s : List ℕ) → unwrap_or (position (λ b. eqb b sep) s) (length s) ≡ first_at sep s
+unfolding first_at
+first_position sep s =
+    let is : first_at sep s ≡ position_or_len (λ b. eqb b sep) s = is_position_or_len (first_at sep) _ refl (λ b t. ap (cond (eqb b sep) 0) (omega arith)) s in
+    let within = first_le sep s in
+    rw is (or_long _ _ (rw is at within))
   where
-    and_false : (x : Bool) → x && false ≡ false
-    and_false true = refl
-    and_false false = refl
-
-pub same_hit : (s t : List ℕ) (i : ℕ) → i < length s → i < length t → get_or s i 0 ≡ get_or t i 0 → same_bytes (drop i s) (drop i t) ≡ same_bytes (drop (i + 1) s) (drop (i + 1) t)
-unfolding same_bytes
-same_hit s t i h k e = simp (at_cons s i h, at_cons t i k, eq-eqb _ _ e)
-
-pub same_miss : (s t : List ℕ) (i : ℕ) → i < length s → i < length t → (get_or s i 0 ≡ get_or t i 0 → ⊥) → same_bytes (drop i s) (drop i t) ≡ false
-unfolding same_bytes
-same_miss s t i h k e = simp (at_cons s i h, at_cons t i k, ne_eqb _ _ e)
-
-pub same_end : (s t : List ℕ) (i : ℕ) → length s ≤ i → length t ≤ i → same_bytes (drop i s) (drop i t) ≡ true
-unfolding same_bytes
-same_end s t i h k = simp (drop_of_length-le s h, drop_of_length-le t k)
+    or_long : (n m : ℕ) → n ≤ m → unwrap_or (cond (ltb n m) (Some n) None) m ≡ n
+    or_long n m h = elim (dec_le m n) [
+      | yes p ↦ rw (le-ltb n m p) (omega arith)
+      | no p ↦ let q : n < m = omega (arith, p) in rw (lt-ltb n m q)
+    ]
 
 -- ---- up to the first byte sep, and after it
 
@@ -113,6 +94,38 @@ pieces_step sep (b ∷ t) e p h =
         pieces_whole sep [] b t k (inl refl)
         ∙ sym (ap₂ (λ (l : List ℕ) (r : List ℕ). l ∷ pieces sep [] r) (take_all (first_at sep (b ∷ t)) (b ∷ t) k) (drop_of_length-le (b ∷ t) (le_trans k (le-suc _))))
 
+pub pieces_none : (sep : ℕ) (s : List ℕ) → length s ≡ 0 → pieces sep [] s ≡ []
+unfolding pieces
+pieces_none sep [] h = refl
+pieces_none sep (b ∷ t) h = absurd (omega arith)
+
+pub pieces_first : (sep : ℕ) (s : List ℕ) → 0 < length s → pieces sep [] s ≡ take (first_at sep s) s ∷ pieces sep [] (drop (first_at sep s + 1) s)
+pieces_first sep s h = pieces_step sep s (first_at sep s) refl h
+
+-- how many pieces there are, and how long each is
+pub pieces_few : (sep : ℕ) (s : List ℕ) → length (pieces sep [] s) ≤ length s
+unfolding pieces opening
+pieces_few sep [] = omega arith
+pieces_few sep (b ∷ t) = by_first (eqb b sep) (pieces sep [] t) (pieces_few sep t)
+  where
+    by_first : (z : Bool) (ls : List (List ℕ)) → length ls ≤ length t → length (cond z ([] ∷ ls) (opening b ls)) ≤ suc (length t)
+    by_first true ls h = omega arith
+    by_first false [] h = omega arith
+    by_first false (l ∷ ls) h = omega arith
+
+pub piece_short : (sep : ℕ) (s : List ℕ) (i : ℕ) → length (get_or (pieces sep [] s) i []) ≤ length s
+unfolding pieces opening
+piece_short sep [] i = omega arith
+piece_short sep (b ∷ t) i = by_first (eqb b sep) i (pieces sep [] t) (piece_short sep t)
+  where
+    by_first : (z : Bool) (i : ℕ) (ls : List (List ℕ)) → ((j : ℕ) → length (get_or ls j []) ≤ length t) → length (get_or (cond z ([] ∷ ls) (opening b ls)) i []) ≤ suc (length t)
+    by_first true zero ls h = omega arith
+    by_first true (suc i) ls h = omega (arith, h i)
+    by_first false zero [] h = omega arith
+    by_first false (suc i) [] h = omega arith
+    by_first false zero (l ∷ ls) h = omega (arith, h 0)
+    by_first false (suc i) (l ∷ ls) h = omega (arith, h (suc i))
+
 -- the same from a position on
 pub pieces_turn : (sep : ℕ) (s t : List ℕ) (at e : ℕ) → t ≡ drop at s → e ≡ first_at sep t → at < length s
     → pieces sep [] (drop at s) ≡ take e t ∷ pieces sep [] (drop (at + e + 1) s)
@@ -122,18 +135,6 @@ pieces_turn sep s t at e p q h =
 pub pieces_end : (sep : ℕ) (s : List ℕ) (at : ℕ) → length s ≤ at → pieces sep [] (drop at s) ≡ []
 unfolding pieces
 pieces_end sep s at h = rw (drop_of_length-le s h)
-
--- the piece in a place: t is what is left of s, and e the place of its first byte sep
-module _ (sep : ℕ) (s t : List ℕ) (at e : ℕ) (p : t ≡ drop at s) (q : e ≡ first_at sep t) (h : at < length s) where
-  pub piece_here : (k : ℕ) → k ≡ 0 → get_or (pieces sep [] (drop at s)) k [] ≡ take e t
-  piece_here k z = rw (pieces_turn sep s t at e p q h, z)
-
-  pub piece_on : (k : ℕ) → (k ≡ 0 → ⊥) → get_or (pieces sep [] (drop at s)) k [] ≡ get_or (pieces sep [] (drop (at + e + 1) s)) (k - 1) []
-  piece_on zero z = absurd (z refl)
-  piece_on (suc k) z = let less : suc k - 1 ≡ k = omega arith in rw (pieces_turn sep s t at e p q h, less)
-
-pub piece_end : (sep : ℕ) (s : List ℕ) (at k : ℕ) → length s ≤ at → get_or (pieces sep [] (drop at s)) k [] ≡ []
-piece_end sep s at k h = rw (pieces_end sep s at h)
 
 -- the fields of a line: the first, and those after it; or one alone
 pub fields_cut : (s : List ℕ) (e : ℕ) → e ≡ first_at 32 s → e < length s → fields_of s ≡ take e s ∷ fields_of (drop (e + 1) s)

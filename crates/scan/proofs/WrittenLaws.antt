@@ -74,16 +74,16 @@ unfolding pieces opening
 pieces_some sep last b t e = by_test (eqb b sep) (pieces sep last t) e
   where
     open_some : (ls : List (List ℕ)) → opening b ls ≡ [] → ⊥
-    open_some [] e = let z : ◌≡◌ {A = ℕ} 0 1 = cc in omega arith
-    open_some (l ∷ ls) e = let z : ◌≡◌ {A = ℕ} 0 1 = cc in omega arith
+    open_some [] e = cc
+    open_some (l ∷ ls) e = cc
 
     by_test : (z : Bool) (ls : List (List ℕ)) → cond z ([] ∷ ls) (opening b ls) ≡ [] → ⊥
-    by_test true ls e = let z : ◌≡◌ {A = ℕ} 0 1 = cc in omega arith
+    by_test true ls e = cc
     by_test false ls e = open_some ls e
 
 fields_some : (s : List ℕ) → fields_of s ≡ [] → ⊥
 unfolding pieces
-fields_some [] e = let z : ◌≡◌ {A = ℕ} 0 1 = cc in omega arith
+fields_some [] e = cc
 fields_some (b ∷ t) e = pieces_some 32 ([] ∷ []) b t e
 
 joined-opening : (b : ℕ) (ls : List (List ℕ)) → joined (opening b ls) ≡ b ∷ joined ls

@@ -1,5 +1,6 @@
 pub mod Ascii
 pub mod Pieces
+pub mod Left
 pub mod Numbers
 pub mod Fields
 pub mod Line

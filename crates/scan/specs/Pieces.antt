@@ -1,5 +1,5 @@
 -- The pieces of a text: its lines, and the fields of a line.
-use Rattle.std.specs.Prelude.{ℕ, suc, ◌+◌, List, [], ◌∷◌, Bool, true, false, cond, ◌&&◌, eqb, take, drop}
+use Rattle.std.specs.Prelude.{ℕ, suc, ◌+◌, List, [], ◌∷◌, Bool, cond, eqb, bytes_eq, take, drop}
 use Prim.Native.Char.{code}
 
 -- b put before a list of pieces: it opens the first one, or is a piece by itself where there is none
@@ -34,8 +34,5 @@ abbrev pub first_field : List ℕ → List ℕ
 first_field s = take (first_at (code " ") s) s
 
 -- whether two byte strings are the same
-unfoldable pub same_bytes : List ℕ → List ℕ → Bool
-same_bytes [] [] = true
-same_bytes [] (c ∷ t) = false
-same_bytes (b ∷ s) [] = false
-same_bytes (b ∷ s) (c ∷ t) = eqb b c && same_bytes s t
+abbrev pub same_bytes : List ℕ → List ℕ → Bool
+same_bytes = bytes_eq

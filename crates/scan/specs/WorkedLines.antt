@@ -1,17 +1,17 @@
 -- Worked lines of a format with the forms `p sp N M` and `a U V W`: the first fault from the left, and its column.
-use Rattle.std.specs.Prelude.{ℕ, ◌≡◌, List}
+use Rattle.std.specs.Prelude.{ℕ, ◌≡◌, List, Result, Err}
 use Rattle.scan.specs.Ascii.{bytes}
 use Rattle.scan.specs.Line.{line_of}
 use Rattle.scan.specs.declared.fields.Kind.{Kind}
 use Rattle.scan.specs.declared.fields.Kind.TheVariants.{EmptyLine, NoLetter, Misspelt, Missing, Extra}
+use Rattle.scan.specs.declared.fields.Fault.{Fault}
 use Rattle.scan.specs.declared.line.Line.{Line}
-use Rattle.scan.specs.declared.line.Line.TheVariants.{Faulty}
 
-abbrev pub line : List ℕ → Line
+abbrev pub line : List ℕ → Result Line Fault
 line s = line_of (bytes "p sp N M") (bytes "a U V W") s
 
-abbrev pub fault : Kind → ℕ → Line
-fault kind column = Faulty (record { kind = kind; column = column })
+abbrev pub fault : Kind → ℕ → Result Line Fault
+fault kind column = Err (record { kind = kind; column = column })
 
 abbrev pub WorkedLines : Type 0
 WorkedLines =

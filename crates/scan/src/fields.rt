@@ -1,12 +1,12 @@
 // The fields of a line, read from left to right where its form has fields; a form is written as in the paper: `p sp N M`, `v ID X Y`.
 ghost use Rattle.std.specs.Prelude.{◌≡◌, ◌+◌, ◌^◌, ◌<◌, length};
 ghost use Rattle.scan.specs.Pieces.{fields_of};
-ghost use Rattle.scan.specs.Fields.{taken_integer, taken, matched};
+ghost use Rattle.scan.specs.Fields.{taken, matched};
 ghost use Rattle.scan.specs.Held.{held_field, held_fields};
 
-use crate::holding::{Numbers, Value, hold, no_numbers, put_before};
-use crate::numbers::{Integer, Natural, read_integer, read_natural};
-use crate::pieces::{first_at, first_byte, front, rest, same_bytes};
+use crate::holding::{Numbers, Value, hold, hold_signed, put_before};
+use crate::numbers::{read_integer, read_natural};
+use crate::pieces::first_at;
 
 // What is wrong with a line.
 #[derive(Clone, Copy)]
@@ -25,90 +25,49 @@ pub struct Fault {
     pub column: usize,
 }
 
-// What a field holds, where it has its spelling.
-#[derive(Drop)]
-pub enum Field {
-    Taken(Value),
-    NotTaken,
-}
-
-// The numbers of a line's fields, or the first fault.
-#[derive(Drop)]
-pub enum Fields {
-    Read(Numbers),
-    Unread(Fault),
-}
-
-// What a field that may have a minus holds.
-fn take_integer(n: Integer) -> Field
-    ensures { result ≡ held_field (taken_integer n) }
-{
-    match n {
-        Integer::Plain(v) => Field::Taken(Value::Signed(hold(v) as i32)),
-        Integer::Minus(v) => Field::Taken(Value::Signed(-(hold(v) as i32))),
-        Integer::NoInteger => Field::NotTaken,
-    }
-}
-
-// The field s where the form has `form`.
-fn take_field(form: &[u8], s: &[u8]) -> Field
+// The field s where the form has `form`, if it has its spelling.
+fn take_field(form: &[u8], s: &[u8]) -> Option<Value>
     ensures { result ≡ held_field (taken form.now s.now) }
 {
-    let b = first_byte(form);
-    if (b'A' <= b) & (b <= b'Z') {
-        if b'X' <= b {
-            return take_integer(read_integer(s));
-        }
-        let n = read_natural(s);
-        let Natural::Number(v) = n else {
-            return Field::NotTaken;
-        };
-        return Field::Taken(Value::Unsigned(hold(v)));
+    match form {
+        [b'X'..=b'Z', ..] => Some(Value::Signed(hold_signed(read_integer(s)?))),
+        [b'A'..=b'W', ..] => Some(Value::Unsigned(hold(read_natural(s)?))),
+        _ => (s == form).then_some(Value::Word),
     }
-    if same_bytes(s, form) {
-        return Field::Taken(Value::Word);
-    }
-    Field::NotTaken
 }
 
 // The fields of s, of which the first stands at the column, where the form has those of `form`.
-fn match_fields(form: &[u8], s: &[u8], column: usize) -> Fields
+fn match_fields(form: &[u8], s: &[u8], column: usize) -> Result<Numbers, Fault>
     requires { column + length s.now + 1 < 2 ^ 64 }
     ensures { result ≡ held_fields (matched (fields_of form.now) column (fields_of s.now)) }
 {
     let d = first_at(form, b' ');
     let e = first_at(s, b' ');
-    let f = take_field(front(form, d), front(s, e));
-    let Field::Taken(v) = f else {
-        return Fields::Unread(Fault {
-            kind: Kind::Misspelt,
-            column,
-        });
-    };
-    if form.len() <= d {
-        if s.len() <= e {
-            return Fields::Read(put_before(v, no_numbers()));
+    let value = take_field(&form[..d], &s[..e]).ok_or(Fault {
+        kind: Kind::Misspelt,
+        column,
+    })?;
+    let later = match (d < form.len(), e < s.len()) {
+        (false, false) => Numbers::default(),
+        (false, true) => {
+            return Err(Fault {
+                kind: Kind::Extra,
+                column: column + e + 1,
+            });
         }
-        return Fields::Unread(Fault {
-            kind: Kind::Extra,
-            column: column + e + 1,
-        });
-    }
-    if s.len() <= e {
-        return Fields::Unread(Fault {
-            kind: Kind::Missing,
-            column: column + e,
-        });
-    }
-    let later = match_fields(rest(form, d + 1), rest(s, e + 1), column + e + 1);
-    let Fields::Read(ns) = later else {
-        return later;
+        (true, false) => {
+            return Err(Fault {
+                kind: Kind::Missing,
+                column: column + e,
+            });
+        }
+        (true, true) => match_fields(&form[d + 1..], &s[e + 1..], column + e + 1)?,
     };
-    Fields::Read(put_before(v, ns))
+    Ok(put_before(value, later))
 }
 
-// The fields of s, from left to right, where the form has those of `form`.
-pub fn read_fields(form: &[u8], s: &[u8]) -> Fields
+// The fields of s, from left to right, where the form has those of `form`; the first fault decides.
+pub fn read_fields(form: &[u8], s: &[u8]) -> Result<Numbers, Fault>
     ensures { result ≡ held_fields (matched (fields_of form.now) 1 (fields_of s.now)) }
 {
     match_fields(form, s, 1)

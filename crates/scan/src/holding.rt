@@ -1,12 +1,12 @@
 // The numbers that a line of a format holds.
 ghost use Rattle.std.specs.Prelude.{◌≡◌};
-ghost use Rattle.scan.specs.Fields.{none, before};
-ghost use Rattle.scan.specs.Held.{held};
+ghost use Rattle.scan.specs.Fields.{before};
+ghost use Rattle.scan.specs.Held.{held, held_z};
 
 // The numbers of a line in the order in which they stand on it: first, second and third are those without sign,
 // x and y those that may have a minus; 0 where there are fewer.
 // What is beyond 10,000,000 is held as 10,000,000: every limit of a format is far below.
-#[derive(Clone, Copy)]
+#[derive(Clone, Copy, Default)]
 pub struct Numbers {
     pub first: u32,
     pub second: u32,
@@ -16,37 +16,30 @@ pub struct Numbers {
 }
 
 // What a field holds: a word of its form, or a number.
-#[derive(Drop)]
+#[derive(Clone, Copy)]
 pub enum Value {
     Word,
     Unsigned(u32),
     Signed(i32),
 }
 
-// No number.
-pub fn no_numbers() -> Numbers
-    ensures { result ≡ none }
-{
-    Numbers {
-        first: 0,
-        second: 0,
-        third: 0,
-        x: 0,
-        y: 0,
-    }
-}
-
 // A number as a line holds it.
+#[tactic(auto, unfolding(crate::specs::Held::held))]
 pub fn hold(v: u64) -> u32
     ensures { result ≡ held v }
 {
-    if 10000000 < v {
-        return 10000000;
-    }
-    v as u32
+    v.min(10_000_000) as u32
+}
+
+// A number that may have a minus, as a line holds it.
+pub fn hold_signed(z: i64) -> i32
+    ensures { result ≡ held_z z }
+{
+    z.clamp(-10_000_000, 10_000_000) as i32
 }
 
 // The value before the numbers of the fields after it.
+#[tactic(auto, unfolding(crate::specs::Fields::before))]
 pub fn put_before(value: Value, ns: Numbers) -> Numbers
     ensures { result ≡ before value ns }
 {
@@ -56,15 +49,12 @@ pub fn put_before(value: Value, ns: Numbers) -> Numbers
             first: v,
             second: ns.first,
             third: ns.second,
-            x: ns.x,
-            y: ns.y,
+            ..ns
         },
         Value::Signed(z) => Numbers {
-            first: ns.first,
-            second: ns.second,
-            third: ns.third,
             x: z,
             y: ns.x,
+            ..ns
         },
     }
 }

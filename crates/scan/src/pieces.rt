@@ -1,62 +1,21 @@
 // Pieces of a text.
-ghost use Rattle.std.specs.Prelude.{◌≡◌, ◌≤◌, length, take, drop, get_or, []};
-ghost use Rattle.scan.specs.Pieces.{first_at, after_first, pieces, same_bytes};
+ghost use Rattle.std.specs.Prelude.{◌≡◌, ◌≤◌, length, get_or, []};
+ghost use Rattle.std.specs.Iterator.{YieldsFirstRef, item_count};
+ghost use Rattle.scan.specs.Pieces.{first_at, after_first, first_field, pieces};
+ghost use Rattle.scan.specs.Left.{pieces_left};
 
 // Where the first byte sep of s stands, or the length of s.
 pub fn first_at(s: &[u8], sep: u8) -> usize
     ensures { (result ≡ first_at sep s.now) × (result ≤ length s.now) }
 {
-    let mut i = 0;
-    while i < s.len() {
-        if s[i] == sep {
-            return i;
-        }
-        i += 1;
-    }
-    i
+    s.iter().position(|b| *b == sep).unwrap_or(s.len())
 }
 
-// Whether two byte strings are the same.
-pub fn same_bytes(s: &[u8], t: &[u8]) -> bool
-    ensures { result ≡ same_bytes s.now t.now }
+// What stands before the first space.
+pub fn first_field(s: &[u8]) -> &[u8]
+    ensures { result.now ≡ first_field s.now }
 {
-    if s.len() != t.len() {
-        return false;
-    }
-    let mut i = 0;
-    while i < s.len() {
-        if s[i] != t[i] {
-            return false;
-        }
-        i += 1;
-    }
-    true
-}
-
-// The first byte, or 0 where there is none.
-pub fn first_byte(s: &[u8]) -> u8
-    ensures { result ≡ get_or s.now 0 0 }
-{
-    if s.len() == 0 {
-        return 0;
-    }
-    s[0]
-}
-
-// The first e bytes.
-pub fn front(s: &[u8], e: usize) -> &[u8]
-    requires { e ≤ length s.now }
-    ensures { result.now ≡ take e s.now }
-{
-    &s[..e]
-}
-
-// The bytes after the first a.
-pub fn rest(s: &[u8], a: usize) -> &[u8]
-    requires { a ≤ length s.now }
-    ensures { result.now ≡ drop a s.now }
-{
-    &s[a..]
+    &s[..first_at(s, b' ')]
 }
 
 // What stands after the first byte sep, or nothing.
@@ -64,10 +23,39 @@ pub fn after_first(s: &[u8], sep: u8) -> &[u8]
     ensures { result.now ≡ after_first sep s.now }
 {
     let e = first_at(s, sep);
-    if e < s.len() {
-        return rest(s, e + 1);
+    if e < s.len() { &s[e + 1..] } else { &[] }
+}
+
+// What is left of a text whose pieces are gone through.
+#[derive(Drop)]
+pub struct Pieces<'a> {
+    left: &'a [u8],
+    sep: u8,
+}
+
+impl<'a> Iterator for Pieces<'a> {
+    type Item = &'a [u8];
+
+    ghost next_gives = { YieldsFirstRef pieces_left };
+
+    ghost remaining = { item_count pieces_left };
+
+    #[tactic(auto, using(crate::proofs::PieceLaws::pieces_first, crate::proofs::PieceLaws::pieces_none))]
+    fn next(&mut self) -> Option<&'a [u8]> {
+        if self.left.is_empty() {
+            return None;
+        }
+        let piece = &self.left[..first_at(self.left, self.sep)];
+        self.left = after_first(self.left, self.sep);
+        Some(piece)
     }
-    rest(s, s.len())
+}
+
+// The pieces of a text that a byte divides, from the left; the last may lack its end.
+pub fn pieces_of(s: &[u8], sep: u8) -> Pieces<'_>
+    ensures { pieces_left result ≡ pieces sep [] s.now }
+{
+    Pieces { left: s, sep }
 }
 
 // The piece in a place, from 0, of those that a byte divides; nothing where there are fewer.
@@ -75,16 +63,5 @@ pub fn piece_at(s: &[u8], sep: u8, place: usize) -> &[u8]
     ensures result_value { result.now ≡ get_or (pieces sep [] s.now) place [] }
     ensures result_in_bounds { length result.now ≤ length s.now }
 {
-    let mut k = place;
-    let mut at = 0;
-    while at < s.len() {
-        let left = rest(s, at);
-        let e = first_at(left, sep);
-        if k == 0 {
-            return front(left, e);
-        }
-        k -= 1;
-        at = at + e + 1;
-    }
-    rest(s, s.len())
+    pieces_of(s, sep).nth(place).unwrap_or(&[])
 }

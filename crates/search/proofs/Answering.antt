@@ -17,7 +17,7 @@ use Rattle.settling.specs.Run.{search_of}
 use Rattle.settling.specs.Trace.{trace_of}
 use Rattle.settling.proofs.Choice.{either}
 use Rattle.settling.proofs.SearchIsRight.{search_found, search_missed}
-use Rattle.search.specs.declared.Answer.TheVariants.{Found, Refused}
+use Rattle.std.specs.Prelude.{Ok, Err}
 use Rattle.search.specs.Paper.{paper}
 use Rattle.search.specs.Says.{Answers, found, none}
 
@@ -36,7 +36,7 @@ module _
       | inr e ↦ omega (arith, settled_small (search_missed sound {keep = keep} low high t e).settled, sound.nodes_high)
     ])
 
-    pub none_answers : o.found ≡ false → Answers (kept keep (laid m R)) n s t row (paper (Refused (NoWalk o.count))) row
+    pub none_answers : o.found ≡ false → Answers (kept keep (laid m R)) n s t row (paper (Err (NoWalk o.count))) row
     none_answers e = rw run (none (search_missed sound low high t (rw run at e)))
 
     module _ (e : o.found ≡ true) where
@@ -44,5 +44,5 @@ module _
       route-fits = rw run (let a = search_found sound low high t (rw run at e) row long in omega (arith, a.few))
 
       pub found-answers : {after : List ℕ} → after ≡ trace_of R keep m o.labels (arcs_of o.labels t) t row
-          → Answers (kept keep (laid m R)) n s t row (paper (Found (length_of o.labels t) (arcs_of o.labels t) o.count)) after
+          → Answers (kept keep (laid m R)) n s t row (paper (Ok (record { length = length_of o.labels t; arcs = arcs_of o.labels t; settled = o.count }))) after
       found-answers h = rw h (rw run (let a = search_found sound low high t (rw run at e) row long in rw a.written (found a.found)))

@@ -4,7 +4,7 @@ use mathlib.Core.Path.{◌≡◌, refl}
 use mathlib.Core.List.{List}
 use native.Mathlib.Omega.{arith}
 use Rattle.rules.specs.Paper.{Reply}
-use Rattle.rules.specs.declared.Judged.{Judged}
+use Rattle.rules.specs.Judging.{Judged}
 use Rattle.walks.specs.Walk.{Net}
 use Rattle.walks.proofs.SearchLaws.{found_unique, no_walk_unique, not_both}
 use Rattle.search.specs.Says.{Answers, found, none, Says, refused, answered}

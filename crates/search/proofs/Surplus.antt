@@ -10,8 +10,7 @@ use lib.ListN.{length, take, drop}
 use lib.Seq.{take-append-add, drop-append-add, take-add, drop_at, drop-drop, length-take-le}
 use Rattle.rules.specs.Paper.{Reply}
 use Rattle.rules.specs.declared.Asked.{Asked}
-use Rattle.rules.specs.declared.Judged.{Judged}
-use Rattle.rules.specs.declared.Judged.TheVariants.{Fine}
+use Rattle.rules.specs.Judging.{Judged, fine}
 use Rattle.walks.specs.Walk.{Net, kept}
 use Rattle.walks.specs.Rows.{Rows, laid, network}
 use Rattle.walks.specs.Search.{Found}
@@ -62,7 +61,7 @@ module _ {N F : Net} {n s t : ℕ} {before : List ℕ} where
   answers-cut x long few (none f) = (none (no_walk_alike x f), refl)
 
   says_cut : {judged judged' : Judged} → judged' ≡ judged
-      → (judged ≡ Fine → Alike N F × (n ≤ length before) × ((d k c : ℕ) (route : List ℕ) → Found N n s t d k c route → length route ≤ n))
+      → (judged ≡ fine → Alike N F × (n ≤ length before) × ((d k c : ℕ) (route : List ℕ) → Found N n s t d k c route → length route ≤ n))
       → {reply : Reply} {after : List ℕ} → Says judged N n s t before reply after → Says judged' F n s t (take n before) reply (take n after) × (drop n after ≡ drop n before)
   says_cut e h (refused q) = (refused (e ∙ q), refl)
   says_cut e h (answered q a) = let y = h q in let z = answers-cut y.0 y.1 y.2 a in (answered (e ∙ q) z.0, z.1)

@@ -1,8 +1,7 @@
 -- What a search says: the one relation between what is lent, the reply and the route row afterwards.
-use Rattle.std.specs.Prelude.{ℕ, ◌≡◌, List, [], ◌∷◌, ◌++◌, ℤ, length, drop}
+use Rattle.std.specs.Prelude.{ℕ, ◌≡◌, List, [], ◌∷◌, ◌++◌, ℤ, length, drop, Err}
 use Rattle.rules.specs.Paper.{Reply, accepted, refusal}
-use Rattle.rules.specs.declared.Judged.{Judged}
-use Rattle.rules.specs.declared.Judged.TheVariants.{Fine, Refused}
+use Rattle.rules.specs.Judging.{Judged, fine}
 use Rattle.rules.specs.declared.Refusal.{Refusal}
 use Rattle.rules.specs.declared.Refusal.TheVariants as refusals
 use Rattle.rules.specs.declared.Asked.{Asked}
@@ -22,8 +21,8 @@ pub data Answers (N : Net) (n s t : ℕ) (before : List ℕ) : Reply → List �
 
 -- The judgement decides: a refusal is the reply, and leaves the row as it was; where it is fine, the answer is given
 pub data Says (judged : Judged) (N : Net) (n s t : ℕ) (before : List ℕ) : Reply → List ℕ → Type 0 where
-  refused : {r : Refusal} → judged ≡ Refused r → Says judged N n s t before (refusal r) before
-  answered : {reply : Reply} {after : List ℕ} → judged ≡ Fine → Answers N n s t before reply after → Says judged N n s t before reply after
+  refused : {r : Refusal} → judged ≡ Err r → Says judged N n s t before (refusal r) before
+  answered : {reply : Reply} {after : List ℕ} → judged ≡ fine → Answers N n s t before reply after → Says judged N n s t before reply after
 
 -- a search from s to t by the arcs that pass the tests asked
 abbrev pub SearchBy : Asked → ℕ → ℕ → Rows → Signs → ℕ → ℕ → List ℕ → Reply → List ℕ → Type 0

@@ -1,50 +1,34 @@
 // The search itself, over rows that were judged.
 ghost use Rattle.std.specs.Prelude.{◌≤◌, length};
 ghost use Rattle.walks.specs.Walk.{kept};
-ghost use Rattle.walks.specs.Rows.{rows, Sound, laid};
-ghost use Rattle.passing.specs.Asking.{Room, keeps};
+ghost use Rattle.walks.specs.Rows.{laid};
+ghost use Rattle.walks.specs.Judged.{rows_in};
+ghost use Rattle.passing.specs.Lent.{keeps_by};
 ghost use Rattle.search.specs.Paper.{paper};
 ghost use Rattle.search.specs.Says.{Answers};
 
-use crate::Answer;
-use passing::Tests;
+use crate::Found;
 use rules::Refusal;
 use settling::run::run;
+use settling::task::Task;
 use settling::trace::trace;
 
-// The answer of a search from `s` to `t` by the arcs that may be used; the route goes into the lent row.
-pub fn find(
-    n: usize,
-    m: usize,
-    tails: &[u32],
-    heads: &[u32],
-    weights: &[u32],
-    closures: &[u8],
-    tests: Tests,
-    boxes: &[i32],
-    masks: &[u32],
-    s: usize,
-    t: usize,
-    route: &mut [u32],
-) -> Answer
-    requires { Sound n m (rows tails.now heads.now weights.now closures.now) × Room tests m boxes.now masks.now × (1 ≤ s) × (s ≤ n) × (1 ≤ t) × (t ≤ n) × (n ≤ length route.old) }
-    ensures { Answers (kept (keeps tests closures.now boxes.now masks.now) (laid m (rows tails.now heads.now weights.now closures.now))) n s t route.old (paper result) route.new }
+// The answer of a search by the arcs that may be used; the route goes into the lent row.
+pub fn find(task: Task, route: &mut [u32]) -> Result<Found, Refusal>
+    requires { (1 ≤ task.t) × (task.t ≤ task.tracks.n) × (task.tracks.n ≤ length route.old) }
+    ensures { let tracks = task.entry.tracks in
+        Answers (kept (keeps_by task.entry.sieve tracks.closures.now) (laid tracks.m (rows_in tracks))) tracks.n task.entry.s task.entry.t route.old (paper result) route.new }
 {
-    let o = run(
-        s, t, n, m, tails, heads, weights, closures, tests, boxes, masks,
-    );
-    let labels = o.labels;
-    let found = o.found;
-    let settled = o.count as u32;
-    if !found {
-        return Answer::Refused(Refusal::NoWalk { settled });
+    let outcome = run(task);
+    let settled = outcome.count as u32;
+    if !outcome.found {
+        return Err(Refusal::NoWalk { settled });
     }
-    trace(
-        labels, t, m, tails, heads, weights, closures, tests, boxes, masks, route,
-    );
-    Answer::Found {
-        length: labels.length[t - 1],
-        arcs: labels.arcs[t - 1],
+    let labels = outcome.labels;
+    trace(&labels, task, route);
+    Ok(Found {
+        length: labels.length[task.t - 1],
+        arcs: labels.arcs[task.t - 1],
         settled,
-    }
+    })
 }

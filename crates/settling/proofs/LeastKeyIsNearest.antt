@@ -10,9 +10,8 @@ use lib.ListN.{get_or}
 use Rattle.walks.specs.Order.{Before}
 use Rattle.walks.specs.Settling.{Next}
 use Rattle.settling.specs.declared.Labels.{Labels}
-use Rattle.frontier.specs.declared.Pick.{Pick}
-use Rattle.frontier.specs.declared.Pick.TheVariants.{Node, Nothing}
-use Rattle.settling.proofs.Choice.{either}
+use Rattle.std.specs.Prelude.{Option, Some, None}
+use Rattle.std.proofs.lemmas.Bool.{cases_Bool}
 use Rattle.settling.specs.Labels.{none, length_of, arcs_of, settled_of}
 use Rattle.settling.specs.Nearest.{nearest_of}
 use Rattle.settling.proofs.NearestIsNext.{nearest_next, nearest_left}
@@ -55,7 +54,7 @@ module _ {n : ℕ} {L : Labels} {t : List ℕ} (high : n ≤ 512) (front : Front
 
     open_still : settled_of L u ≡ false
     unfolding seen
-    open_still = elim (either (settled_of L u)) [ inl d ↦ absurd (next.unsettled (numbers.0, numbers.1, d)) | inr d ↦ d ]
+    open_still = elim (cases_Bool (settled_of L u)) [ inl d ↦ absurd (next.unsettled (numbers.0, numbers.1, d)) | inr d ↦ d ]
 
     order : (v : ℕ) → v < 512 → get_or L.settled v false ≡ false → get_or L.length v 0 < none → v ≢ u - 1
         → Before (length_of L u) (arcs_of L u) u (get_or L.length v 0) (get_or L.arcs v 0) (v + 1)
@@ -81,7 +80,7 @@ module _ {n : ℕ} {L : Labels} {t : List ℕ} (high : n ≤ 512) (front : Front
         ])
         (omega arith))
 
-    picked : pick_of (get_or t 1 0) ≡ Node u
+    picked : pick_of (get_or t 1 0) ≡ Some u
     picked =
         let a = numbers in
         let k = few u next.labelled in
@@ -90,9 +89,9 @@ module _ {n : ℕ} {L : Labels} {t : List ℕ} (high : n ≤ 512) (front : Front
         let l = root_least front.mended (u - 1) (omega arith) in
         let e : get_or t 1 0 ≡ x = omega (arith, l, own, r.same, least_of r.place r.high) in
         let q : x % 1_024 ≡ u = omega arith in
-        rw e (sym (pick_some x (omega arith)) ∙ ap Node q)
+        rw e (sym (pick_some x (omega arith)) ∙ ap Some q)
 
-  left : ((v : ℕ) → (seen n L).Labelled v → ¬ ¬ (seen n L).Settled v) → pick_of (get_or t 1 0) ≡ Nothing
+  left : ((v : ℕ) → (seen n L).Labelled v → ¬ ¬ (seen n L).Settled v) → pick_of (get_or t 1 0) ≡ None
   left none_left =
       let r = root_leaf front.mended in
       let w = r.place in
@@ -101,9 +100,9 @@ module _ {n : ℕ} {L : Labels} {t : List ℕ} (high : n ≤ 512) (front : Front
       (λ o h. absurd (none_left (w + 1) (labelled w r.high h) (unsettled w o))) refl in
       sym (pick_none _ (omega (arith, r.same, front.leaf w r.high, e)))
 
-  by_pick : (p : Pick) → nearest_of L n ≡ p → pick_of (get_or t 1 0) ≡ p
-  by_pick Nothing e = left (nearest_left n L e)
-  by_pick (Node u) e = picked (nearest_next n L e)
+  by_pick : (p : Option ℕ) → nearest_of L n ≡ p → pick_of (get_or t 1 0) ≡ p
+  by_pick None e = left (nearest_left n L e)
+  by_pick (Some u) e = picked (nearest_next n L e)
 
   pub pick_nearest : pick_of (get_or t 1 0) ≡ nearest_of L n
   pick_nearest = by_pick (nearest_of L n) refl

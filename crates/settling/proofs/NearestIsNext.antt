@@ -8,9 +8,9 @@ use mathlib.Core.Logic.{◌⊎◌, inl, inr}
 use borrow.Author.Tests.{not-true, eq-eqb, ne_eqb}
 use Rattle.walks.specs.Settling.{Next}
 use Rattle.walks.proofs.Scanning.{NoneBelow, NextBelow, none_pass, next_pass, none-take, next_keep, next-take, next-found, none_found}
+use Rattle.std.specs.Prelude.{Some, None}
 use Rattle.settling.specs.declared.Labels.{Labels}
-use Rattle.frontier.specs.declared.Pick.TheVariants.{Node, Nothing}
-use Rattle.settling.proofs.Choice.{either, cond_yes, cond_no, cond_by}
+use Rattle.std.proofs.lemmas.Bool.{cases_Bool, cond-true, cond-false, cond_both}
 use Rattle.rules.proofs.AndLaws.{and_true, and_yes}
 use Rattle.settling.specs.Labels.{none, length_of, arcs_of, settled_of, before}
 use Rattle.settling.specs.Nearest.{Leader, better, leader_of, nearest_of}
@@ -18,13 +18,13 @@ use Rattle.settling.specs.Seen.{seen}
 use Rattle.settling.proofs.Offers.{before_true, before_false}
 
 module _ (L : Labels) (n : ℕ) where
-  nearest_none : (leader_of L n).node ≡ 0 → nearest_of L n ≡ Nothing
+  nearest_none : (leader_of L n).node ≡ 0 → nearest_of L n ≡ None
   unfolding nearest_of
-  nearest_none e = cond_yes _ _ (eq-eqb _ 0 e)
+  nearest_none e = cond-true _ _ _ (eq-eqb _ 0 e)
 
-  nearest_some : ((leader_of L n).node ≡ 0 → ⊥) → nearest_of L n ≡ Node (leader_of L n).node
+  nearest_some : ((leader_of L n).node ≡ 0 → ⊥) → nearest_of L n ≡ Some (leader_of L n).node
   unfolding nearest_of
-  nearest_some e = cond_no _ _ (ne_eqb _ 0 e)
+  nearest_some e = cond-false _ _ _ (ne_eqb _ 0 e)
 
 module _ (n : ℕ) (L : Labels) where
   -- of the nodes below i, none is left to settle
@@ -64,7 +64,7 @@ module _ (n : ℕ) (L : Labels) where
           node = z.node;
           length = z.length;
           arcs = z.arcs;
-          below = none_pass (λ known free. elim (either (settled_of L i)) [
+          below = none_pass (λ known free. elim (cases_Bool (settled_of L i)) [
             | inl d ↦ free (low, high, d)
             | inr d ↦ omega (arith, known.2, before_false (length_of L i) (arcs_of L i) b.length b.arcs (h d))
           ]) z.below;
@@ -73,7 +73,7 @@ module _ (n : ℕ) (L : Labels) where
         inr (record {
           length = z.length;
           arcs = z.arcs;
-          below = elim (either (settled_of L i)) [
+          below = elim (cases_Bool (settled_of L i)) [
             | inl d ↦ next_pass (λ known free. free (low, high, d)) z.below
             | inr d ↦
                 let after = before_false (length_of L i) (arcs_of L i) b.length b.arcs (h d) in
@@ -85,7 +85,7 @@ module _ (n : ℕ) (L : Labels) where
     unfolding better
     looked z =
         let back : i - 1 + 1 ≡ i = omega arith in
-        cond_by (λ (x : Leader). Nobody (suc i) x ⊎ Leads (suc i) x) (not (settled_of L i) && passes) _ b
+        cond_both (not (settled_of L i) && passes) _ b (λ (x : Leader). Nobody (suc i) x ⊎ Leads (suc i) x)
         (λ t.
         let y = and_true (not (settled_of L i)) passes t in
         inr (record {
@@ -111,7 +111,7 @@ module _ (n : ℕ) (L : Labels) where
   unfolding seen
   nodes v known = known.1
 
-  pub nearest_next : {u : ℕ} → nearest_of L n ≡ Node u → Next (seen n L) u
+  pub nearest_next : {u : ℕ} → nearest_of L n ≡ Some u → Next (seen n L) u
   nearest_next {u} e = elim (leads n (omega arith)) [
     | inl z ↦
         let q = nearest_none L n z.node in
@@ -123,7 +123,7 @@ module _ (n : ℕ) (L : Labels) where
         rw (← y) (next-found nodes z.below)
   ]
 
-  pub nearest_left : nearest_of L n ≡ Nothing → (v : ℕ) → (seen n L).Labelled v → ¬ ¬ (seen n L).Settled v
+  pub nearest_left : nearest_of L n ≡ None → (v : ℕ) → (seen n L).Labelled v → ¬ ¬ (seen n L).Settled v
   nearest_left e = elim (leads n (omega arith)) [
     | inl z ↦ none_found nodes z.below
     | inr z ↦

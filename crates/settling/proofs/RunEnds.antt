@@ -15,9 +15,8 @@ use Rattle.walks.proofs.Marking.{started}
 use Rattle.walks.proofs.Limits.{count_room}
 use Rattle.settling.specs.declared.Labels.{Labels}
 use Rattle.settling.specs.declared.Outcome.{Outcome}
-use Rattle.frontier.specs.declared.Pick.{Pick}
-use Rattle.frontier.specs.declared.Pick.TheVariants.{Node, Nothing}
-use Rattle.settling.proofs.Choice.{cond_by}
+use Rattle.std.specs.Prelude.{Option, Some, None}
+use Rattle.std.proofs.lemmas.Bool.{cond_both}
 use Rattle.settling.specs.Labels.{length_of, arcs_of, before, start_of, labelled, offered, marked}
 use Rattle.settling.specs.Settle.{arc_step, relaxed, settle_of}
 use Rattle.settling.specs.Nearest.{nearest_of}
@@ -32,14 +31,14 @@ use Rattle.settling.proofs.StageKept.{next_near, stage_settle}
 
 offered_marks : (L : Labels) (v l k : ℕ) → (offered L v l k).settled ≡ L.settled
 unfolding offered labelled
-offered_marks L v l k = cond_by (λ (x : Labels). x.settled ≡ L.settled) (before l k (length_of L v) (arcs_of L v)) _ _ (λ t. refl) (λ t. refl)
+offered_marks L v l k = cond_both (before l k (length_of L v) (arcs_of L v)) _ _ (λ (x : Labels). x.settled ≡ L.settled) (λ t. refl) (λ t. refl)
 
 module _ (R : Rows) (keep : ℕ → Bool) where
   relaxed_marks : (u l k : ℕ) (L : Labels) (j : ℕ) → (relaxed R keep u l k L j).settled ≡ L.settled
   unfolding relaxed arc_step
   relaxed_marks u l k L zero = refl
   relaxed_marks u l k L (suc j) =
-      cond_by (λ (x : Labels). x.settled ≡ L.settled) (eqb (get_or R.tails j 0) u && keep (j + 1)) _ _
+      cond_both (eqb (get_or R.tails j 0) u && keep (j + 1)) _ _ (λ (x : Labels). x.settled ≡ L.settled)
       (λ t. offered_marks _ _ _ _ ∙ relaxed_marks u l k L j)
       (λ t. relaxed_marks u l k L j)
 
@@ -54,7 +53,7 @@ module _ {R : Rows} {n m : ℕ} (sound : Sound n m R) {keep : ℕ → Bool} {s :
   pub stage_start : 1 ≤ s → s ≤ n → Stage R keep n m s 0 (start_of s)
   stage_start low high = record { progress = started n (seen_start n sound.nodes_high s low high); full = full_start n sound.nodes_high s low high }
 
-  module _ {c u : ℕ} {L : Labels} (stage : Stage R keep n m s c L) (picked : nearest_of L n ≡ Node u) where
+  module _ {c u : ℕ} {L : Labels} (stage : Stage R keep n m s c L) (picked : nearest_of L n ≡ Some u) where
     pub ready : Ready n L u
     unfolding seen
     ready =
@@ -75,11 +74,11 @@ pub data Ends (R : Rows) (keep : ℕ → Bool) (n m s t : ℕ) : Outcome → Typ
 module _ {R : Rows} {n m : ℕ} (sound : Sound n m R) {keep : ℕ → Bool} {s t : ℕ} where
   after : (c : ℕ) (L : Labels) (go : Labels → Outcome) → Stage R keep n m s c L → ¬ (seen n L).Settled t
       → ((L' : Labels) → Stage R keep n m s (c + 1) L' → ¬ (seen n L').Settled t → Ends R keep n m s t (go L'))
-      → (p : Pick) → nearest_of L n ≡ p → Ends R keep n m s t (after_pick R keep n m t c L go p)
+      → (p : Option ℕ) → nearest_of L n ≡ p → Ends R keep n m s t (after_pick R keep n m t c L go p)
   unfolding after_pick
-  after c L go stage out next Nothing e = misses stage out (nearest_left n L e)
-  after c L go stage out next (Node u) e =
-      cond_by (Ends R keep n m s t) (eqb u t) _ _
+  after c L go stage out next None e = misses stage out (nearest_left n L e)
+  after c L go stage out next (Some u) e =
+      cond_both (eqb u t) _ _ (Ends R keep n m s t)
       (λ q. finds stage (rw (eqb-true u t q) at (nearest_next n L e)))
       (λ q. next (settle_of R keep m L u) (stage_on sound stage e) (still_unsettled R keep n m L u t (ready sound stage e).low (eqb-false u t q) out))
 

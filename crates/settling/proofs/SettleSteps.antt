@@ -7,7 +7,7 @@ use lib.ListN.{get_or}
 use borrow.Author.Tests.{eq-eqb, ne_eqb}
 use Rattle.walks.specs.Rows.{Rows}
 use Rattle.settling.specs.declared.Labels.{Labels}
-use Rattle.settling.proofs.Choice.{cond_yes, cond_no}
+use Rattle.std.proofs.lemmas.Bool.{cond-true, cond-false}
 use Rattle.rules.proofs.AndLaws.{and_yes, and_no}
 use Rattle.settling.specs.Labels.{length_of, arcs_of, offered, marked}
 use Rattle.settling.specs.Settle.{arc_step, relaxed, settle_of}
@@ -24,16 +24,16 @@ module _ (R : Rows) (keep : ℕ → Bool) (u l k : ℕ) (L : Labels) where
   module _ (j : ℕ) where
     pub step_other : (get_or R.tails j 0 ≡ u → ⊥) → arc_step R keep u l k j L ≡ L
     unfolding arc_step
-    step_other h = cond_no _ _ (and_no _ (ne_eqb _ u h))
+    step_other h = cond-false _ _ _ (and_no _ (ne_eqb _ u h))
 
     pub step_shut : get_or R.tails j 0 ≡ u → keep (j + 1) ≡ false → arc_step R keep u l k j L ≡ L
     unfolding arc_step
-    step_shut h e = cond_no _ _ (and_yes (eq-eqb _ u h) e)
+    step_shut h e = cond-false _ _ _ (and_yes (eq-eqb _ u h) e)
 
     pub step_open : get_or R.tails j 0 ≡ u → keep (j + 1) ≡ true
         → arc_step R keep u l k j L ≡ offered L (get_or R.heads j 0) (l + get_or R.weights j 0) (k + 1)
     unfolding arc_step
-    step_open h e = cond_yes _ _ (and_yes (eq-eqb _ u h) e)
+    step_open h e = cond-true _ _ _ (and_yes (eq-eqb _ u h) e)
 
 -- the whole: all m arcs, from u's label and the labels with u marked
 pub settle_all : (R : Rows) (keep : ℕ → Bool) (m : ℕ) (L : Labels) (u : ℕ)

@@ -15,7 +15,7 @@ use Rattle.walks.specs.Settling.{Next}
 use Rattle.walks.proofs.Marking.{Relaxing, settle}
 use Rattle.walks.proofs.Relaxing.{relax_none, relax_better, relaxed_all}
 use Rattle.settling.specs.declared.Labels.{Labels}
-use Rattle.settling.proofs.Choice.{cond_by}
+use Rattle.std.proofs.lemmas.Bool.{cond_both}
 use Rattle.rules.proofs.AndLaws.{and_true, and_yes}
 use Rattle.settling.specs.Labels.{length_of, arcs_of, before, labelled, offered, marked}
 use Rattle.settling.specs.Settle.{arc_step, relaxed, settle_of}
@@ -40,7 +40,7 @@ module _ {R : Rows} {n m : ℕ} (sound : Sound n m R) {keep : ℕ → Bool} wher
         let a = sound.arcs i low high in
         let v = at R.heads i in
         let w = at R.weights i in
-        cond_by (Half R keep n m s c u l k i) (before (l + w) (k + 1) (length_of L v) (arcs_of L v)) (labelled L v (l + w) (k + 1)) L
+        cond_both (before (l + w) (k + 1) (length_of L v) (arcs_of L v)) (labelled L v (l + w) (k + 1)) L (Half R keep n m s c u l k i)
         (λ t.
         let less = before_true (l + w) (k + 1) (length_of L v) (arcs_of L v) t in
         let new = seen-labelled n sound.nodes_high h.full v (l + w) (k + 1) a.head_low a.head_high (omega arith) in
@@ -69,7 +69,7 @@ module _ {R : Rows} {n m : ℕ} (sound : Sound n m R) {keep : ℕ → Bool} wher
     unfolding arc_step laid
     step =
         let back : i - 1 + 1 ≡ i = omega arith in
-        cond_by (Half R keep n m s c u l k i) (eqb (at R.tails i) u && keep (i - 1 + 1)) _ L
+        cond_both (eqb (at R.tails i) u && keep (i - 1 + 1)) _ L (Half R keep n m s c u l k i)
         (λ t. let y = and_true (eqb (at R.tails i) u) _ t in offer (eqb-true _ u y.0) (ap keep (sym back) ∙ y.1))
         (λ t.
         record {

@@ -16,9 +16,8 @@ use Rattle.walks.specs.Route.{Route, start, into}
 use Rattle.walks.specs.Settling.{Next}
 use Rattle.walks.proofs.Tracing.{Fits, fits_chosen, some_fits, traced_start, fits_settled}
 use Rattle.settling.specs.declared.Labels.{Labels}
-use Rattle.settling.specs.declared.Into.{Into}
-use Rattle.settling.specs.declared.Into.TheVariants.{Arc, Nothing}
-use Rattle.settling.proofs.Choice.{cond_by}
+use Rattle.std.specs.Prelude.{Option, Some, None}
+use Rattle.std.proofs.lemmas.Bool.{cond_both}
 use Rattle.rules.proofs.AndLaws.{and_true}
 use Rattle.settling.specs.Labels.{none, length_of, arcs_of}
 use Rattle.settling.specs.Trace.{fits, arc_fits, into_of, trace_of}
@@ -29,7 +28,7 @@ use Rattle.settling.specs.Stage.{Stage}
 fits_true : (l k w l' k' : ℕ) → fits l k w l' k' ≡ true → (l + w ≡ l') × (k + 1 ≡ k')
 unfolding fits
 fits_true l k w l' k' =
-    cond_by (λ (z : Bool). z ≡ true → (l + w ≡ l') × (k + 1 ≡ k')) (eqb (l + w) l') _ _
+    cond_both (eqb (l + w) l') _ _ (λ (z : Bool). z ≡ true → (l + w ≡ l') × (k + 1 ≡ k'))
     (λ t e. (eqb-true (l + w) l' t, eqb-true (k + 1) k' e))
     (λ t e. absurd (false≢true e))
 
@@ -64,17 +63,17 @@ module _ {R : Rows} {n m : ℕ} (sound : Sound n m R) (keep : ℕ → Bool) (L :
 
 -- e is found, and is the lowest-numbered that fits
 record Found (R : Rows) (keep : ℕ → Bool) (n m : ℕ) (L : Labels) (v e : ℕ) : Type 0 where
-  found : into_of R keep L v m ≡ Arc e
+  found : into_of R keep L v m ≡ Some e
   here : Fits (kept keep (laid m R)) (seen n L) v e
   lowest : (i : ℕ) → Fits (kept keep (laid m R)) (seen n L) v i → e ≤ i
 
 module _ {R : Rows} {n m : ℕ} (sound : Sound n m R) (keep : ℕ → Bool) (L : Labels) (v : ℕ) (near : length_of L v < none) where
-  looked : {x : ℕ} → Fits (kept keep (laid m R)) (seen n L) v x → (f : Into) → into_of R keep L v m ≡ f → (e : ℕ) × Found R keep n m L v e
+  looked : {x : ℕ} → Fits (kept keep (laid m R)) (seen n L) v x → (f : Option ℕ) → into_of R keep L v m ≡ f → (e : ℕ) × Found R keep n m L v e
   unfolding into_of
-  looked {x} y Nothing q =
+  looked {x} y None q =
       let z = tests sound keep L v x y in
       absurd (true≢false (sym z.2 ∙ first_none (arc_fits R keep L v) m 0 (x - 1) q (omega arith) (omega (arith, z.0, z.1))))
-  looked y (Arc e) q =
+  looked y (Some e) q =
       let r = first_is (arc_fits R keep L v) m 0 e q in (
         e,
         record {

@@ -11,9 +11,8 @@ use lib.Dec.{eqb}
 use borrow.Author.Tests.{eq-eqb, ne_eqb}
 use Rattle.walks.specs.Rows.{Rows, at}
 use Rattle.settling.specs.declared.Labels.{Labels}
-use Rattle.settling.specs.declared.Into.{Into}
-use Rattle.settling.specs.declared.Into.TheVariants.{Arc, Nothing}
-use Rattle.settling.proofs.Choice.{cond_yes, cond_no, cond_by}
+use Rattle.std.specs.Prelude.{Option, Some, None}
+use Rattle.std.proofs.lemmas.Bool.{cond-true, cond-false, cond_both}
 use Rattle.rules.proofs.AndLaws.{and_yes, and_no}
 use Rattle.settling.specs.Labels.{length_of, arcs_of}
 use Rattle.settling.specs.Trace.{fits, first_of, arc_fits, into_of, after_into, trace_of}
@@ -23,31 +22,27 @@ use Rattle.settling.specs.Trace.{fits, first_of, arc_fits, into_of, after_into, 
 module _ (l k w l' k' : ℕ) where
   pub fits-yes : l + w ≡ l' → fits l k w l' k' ≡ eqb (k + 1) k'
   unfolding fits
-  fits-yes e = cond_yes _ _ (eq-eqb _ _ e)
-
-  pub fits_no : (l + w ≡ l' → ⊥) → fits l k w l' k' ≡ false
-  unfolding fits
-  fits_no e = cond_no _ _ (ne_eqb _ _ e)
+  fits-yes e = cond-true _ _ _ (eq-eqb _ _ e)
 
 -- ---- A loop that looks for the first: the look from j on is the whole look. How a turn keeps that, or ends it.
 
 module _ (test : ℕ → Bool) (f j : ℕ) where
-  first_next : first_of test (f + 1) j ≡ cond (test j) (Arc (j + 1)) (first_of test f (j + 1))
+  first_next : first_of test (f + 1) j ≡ cond (test j) (Some (j + 1)) (first_of test f (j + 1))
   unfolding first_of
   first_next = rw (add-one f)
 
-module _ (test : ℕ → Bool) (m : ℕ) (whole : Into) where
+module _ (test : ℕ → Bool) (m : ℕ) (whole : Option ℕ) where
   abbrev pub Rest : ℕ → Type 0
   Rest j = (f : ℕ) → f + j ≡ m → first_of test f j ≡ whole
 
   module _ (j : ℕ) (rest : Rest j) where
-    pub hit : j < m → test j ≡ true → Arc (j + 1) ≡ whole
-    hit h e = let f = m - (j + 1) in sym (first_next test f j ∙ cond_yes _ _ e) ∙ rest (f + 1) (omega arith)
+    pub hit : j < m → test j ≡ true → Some (j + 1) ≡ whole
+    hit h e = let f = m - (j + 1) in sym (first_next test f j ∙ cond-true _ _ _ e) ∙ rest (f + 1) (omega arith)
 
     pub miss : test j ≡ false → Rest (j + 1)
-    miss e f h = sym (first_next test f j ∙ cond_no _ _ e) ∙ rest (f + 1) (omega arith)
+    miss e f h = sym (first_next test f j ∙ cond-false _ _ _ e) ∙ rest (f + 1) (omega arith)
 
-    pub over : j ≤ m → m ≤ j → Nothing ≡ whole
+    pub over : j ≤ m → m ≤ j → None ≡ whole
     unfolding first_of
     over h h' = rest 0 (omega arith)
 
@@ -81,11 +76,11 @@ pub record First (test : ℕ → Bool) (f j e : ℕ) : Type 0 where
   pub passes : test (e - 1) ≡ true
   pub lowest : (i : ℕ) → j ≤ i → test i ≡ true → e ≤ i + 1
 
-pub first_is : (test : ℕ → Bool) (f j e : ℕ) → first_of test f j ≡ Arc e → First test f j e
+pub first_is : (test : ℕ → Bool) (f j e : ℕ) → first_of test f j ≡ Some e → First test f j e
 unfolding first_of
 first_is test zero j e = λ q. let z : ◌≡◌ {A = ℕ} 0 1 = cc in absurd (omega arith)
 first_is test (suc f) j e =
-    cond_by (λ (x : Into). x ≡ Arc e → First test (suc f) j e) (test j) (Arc (j + 1)) (first_of test f (j + 1))
+    cond_both (test j) (Some (j + 1)) (first_of test f (j + 1)) (λ (x : Option ℕ). x ≡ Some e → First test (suc f) j e)
     (λ t q.
     let z : j + 1 ≡ e = cc in
     let y : e - 1 ≡ j = omega arith in
@@ -103,21 +98,16 @@ first_is test (suc f) j e =
     })
 
 -- where none is found, every place fails
-pub first_none : (test : ℕ → Bool) (f j i : ℕ) → first_of test f j ≡ Nothing → j ≤ i → i < j + f → test i ≡ false
+pub first_none : (test : ℕ → Bool) (f j i : ℕ) → first_of test f j ≡ None → j ≤ i → i < j + f → test i ≡ false
 unfolding first_of
 first_none test zero j i = λ q h h'. absurd (omega arith)
 first_none test (suc f) j i =
-    cond_by (λ (x : Into). x ≡ Nothing → j ≤ i → i < j + suc f → test i ≡ false) (test j) (Arc (j + 1)) (first_of test f (j + 1))
+    cond_both (test j) (Some (j + 1)) (first_of test f (j + 1)) (λ (x : Option ℕ). x ≡ None → j ≤ i → i < j + suc f → test i ≡ false)
     (λ t q h h'. let z : ◌≡◌ {A = ℕ} 0 1 = cc in absurd (omega arith))
     (λ t q h h'. elim (ℕ_discrete i j) [
       | yes same ↦ ap test same ∙ t
       | no other ↦ first_none test f (j + 1) i q (omega arith) (omega arith)
     ])
-
--- what is found is an arc of the first m
-pub into_in : (R : Rows) (keep : ℕ → Bool) (L : Labels) (v m e : ℕ) → into_of R keep L v m ≡ Arc e → (1 ≤ e) × (e ≤ m)
-unfolding into_of
-into_in R keep L v m e q = let r = first_is (arc_fits R keep L v) m 0 e q in (omega arith, omega arith)
 
 -- ---- The trace
 
@@ -131,11 +121,11 @@ module _ (R : Rows) (keep : ℕ → Bool) (m : ℕ) (L : Labels) (v : ℕ) (row 
     unfolding trace_of
     trace_next = rw (add-one k)
 
-    pub trace_stuck : into_of R keep L v m ≡ Nothing → trace_of R keep m L (k + 1) v row ≡ row
+    pub trace_stuck : into_of R keep L v m ≡ None → trace_of R keep m L (k + 1) v row ≡ row
     unfolding after_into
     trace_stuck e = trace_next ∙ rw e
 
-    pub trace_on : (e : ℕ) → into_of R keep L v m ≡ Arc e
+    pub trace_on : (e : ℕ) → into_of R keep L v m ≡ Some e
         → trace_of R keep m L (k + 1) v row ≡ trace_of R keep m L k (at R.tails e) (set row k e)
     unfolding after_into
     trace_on e q = trace_next ∙ rw q

@@ -10,7 +10,7 @@ use lib.Seq.{get_or-set_same, get_or-set_other}
 use lib.Dec.{ltb}
 use borrow.Author.Tests.{lt-ltb, le-ltb, not-true, ltb-true}
 use Rattle.settling.specs.declared.Labels.{Labels}
-use Rattle.settling.proofs.Choice.{cond_yes, cond_no, cond_by}
+use Rattle.std.proofs.lemmas.Bool.{cond-true, cond-false, cond_both}
 use Rattle.rules.proofs.AndLaws.{and_yes, and_no, and_true}
 use Rattle.settling.specs.Labels.{none, length_of, arcs_of, settled_of, before, start_of, labelled, marked}
 use Rattle.frontier.specs.Tree.{key_of, far, Rekeyed}
@@ -22,21 +22,21 @@ use Rattle.settling.proofs.LabelsSeen.{sized_labelled}
 
 pub leaf_open : (l k v : ℕ) {done : Bool} → done ≡ false → l < none → leaf_key done l k v ≡ key_of l k v
 unfolding leaf_key
-leaf_open l k v d h = cond_yes _ _ (and_yes (ap not d) (lt-ltb l none h))
+leaf_open l k v d h = cond-true _ _ _ (and_yes (ap not d) (lt-ltb l none h))
 
 leaf_shut : (l k v : ℕ) {done : Bool} → done ≡ true → leaf_key done l k v ≡ far
 unfolding leaf_key
-leaf_shut l k v d = cond_no _ _ (and_no _ (ap not d))
+leaf_shut l k v d = cond-false _ _ _ (and_no _ (ap not d))
 
 leaf_none : (l k v : ℕ) (done : Bool) → none ≤ l → leaf_key done l k v ≡ far
 unfolding leaf_key
 leaf_none l k v true h = refl
-leaf_none l k v false h = cond_no _ _ (le-ltb l none h)
+leaf_none l k v false h = cond-false _ _ _ (le-ltb l none h)
 
 pub leaf_by : (P : ℕ → Type 0) (done : Bool) (l k v : ℕ) → (done ≡ false → l < none → P (key_of l k v)) → P far → P (leaf_key done l k v)
 unfolding leaf_key
 leaf_by P done l k v f g =
-    cond_by P (not done && ltb l none) _ _
+    cond_both (not done && ltb l none) _ _ P
     (λ t. let y = and_true (not done) (ltb l none) t in f (not-true _ y.0) (ltb-true l none y.1))
     (λ t. g)
 

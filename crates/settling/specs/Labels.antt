@@ -1,11 +1,7 @@
 -- The labels of a search: how they begin, and how a node is labelled, offered a label, or marked as settled.
 -- Node v's entries stand at v - 1. A label is a length and an arc count, ordered by length first and then by arc count.
-use Rattle.std.specs.Prelude.{ℕ, ◌-◌, Bool, true, false, cond, List, get_or, set, replicate, ltb, eqb}
+use Rattle.std.specs.Prelude.{ℕ, ◌-◌, Bool, true, false, cond, get_or, set, replicate, ltb, eqb}
 use Rattle.settling.specs.declared.Labels.{Labels}
-
--- the labels of three rows
-abbrev pub labels : List ℕ → List ℕ → List Bool → Labels
-labels length arcs settled = record { length = length; arcs = arcs; settled = settled }
 
 -- the length of a node that has no label
 abbrev pub none : ℕ

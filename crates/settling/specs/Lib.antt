@@ -1,5 +1,4 @@
 -- What the code of `settling` computes, step by step, and what its inner steps know.
-pub mod Posed
 pub mod Labels
 pub mod Settle
 pub mod Nearest

@@ -1,8 +1,6 @@
 -- The node to be settled next: of the labelled nodes not settled, the one whose label comes first, the lower number of two alike.
-use Rattle.std.specs.Prelude.{ℕ, zero, suc, ◌+◌, false, not, cond, ◌&&◌, get_or, eqb}
+use Rattle.std.specs.Prelude.{ℕ, zero, suc, ◌+◌, false, not, cond, ◌&&◌, get_or, eqb, Option, Some, None}
 use Rattle.settling.specs.declared.Labels.{Labels}
-use Rattle.frontier.specs.declared.Pick.{Pick}
-use Rattle.frontier.specs.declared.Pick.TheVariants.{Node, Nothing}
 use Rattle.settling.specs.Labels.{none, before}
 
 -- the first so far, with its label; node 0 stands for none
@@ -24,5 +22,5 @@ module _ (L : Labels) where
   leader_of zero = record { node = 0; length = none; arcs = 0 }
   leader_of (suc v) = better v (leader_of v)
 
-unfoldable pub nearest_of : Labels → ℕ → Pick
-nearest_of L n = cond (eqb (leader_of L n).node 0) Nothing (Node (leader_of L n).node)
+unfoldable pub nearest_of : Labels → ℕ → Option ℕ
+nearest_of L n = cond (eqb (leader_of L n).node 0) None (Some (leader_of L n).node)

@@ -1,9 +1,7 @@
 -- The run: the next node is settled, again and again, until it is the target or none is left.
-use Rattle.std.specs.Prelude.{ℕ, zero, suc, ◌+◌, Bool, true, false, cond, eqb}
+use Rattle.std.specs.Prelude.{ℕ, zero, suc, ◌+◌, Bool, true, false, cond, eqb, Option, Some, None}
 use Rattle.walks.specs.Rows.{Rows}
 use Rattle.settling.specs.declared.Labels.{Labels}
-use Rattle.frontier.specs.declared.Pick.{Pick}
-use Rattle.frontier.specs.declared.Pick.TheVariants.{Node, Nothing}
 use Rattle.settling.specs.declared.Outcome.{Outcome}
 use Rattle.settling.specs.Labels.{start_of}
 use Rattle.settling.specs.Settle.{settle_of}
@@ -12,9 +10,9 @@ use Rattle.settling.specs.Nearest.{nearest_of}
 -- n nodes, m arcs, target t; target 0 is never found, so that all that can be reached is settled
 module _ (R : Rows) (keep : ℕ → Bool) (n m t : ℕ) where
   -- what is done with the pick when `done` nodes are settled; `go` is the rest of the run
-  unfoldable pub after_pick : ℕ → Labels → (Labels → Outcome) → Pick → Outcome
-  after_pick done L go Nothing = record { labels = L; count = done; found = false }
-  after_pick done L go (Node u) =
+  unfoldable pub after_pick : ℕ → Labels → (Labels → Outcome) → Option ℕ → Outcome
+  after_pick done L go None = record { labels = L; count = done; found = false }
+  after_pick done L go (Some u) =
       cond (eqb u t) (record { labels = L; count = done + 1; found = true }) (go (settle_of R keep m L u))
 
   -- for at most so many rounds

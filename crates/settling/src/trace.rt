@@ -1,100 +1,63 @@
 // The route, traced back from the target by the labels.
-ghost use Rattle.std.specs.Prelude.{◌≡◌, ◌≤◌, length, []};
-ghost use Rattle.walks.specs.Rows.{rows, Sound};
+ghost use Rattle.std.specs.Prelude.{◌≡◌, ◌≤◌, length, IfSome};
+ghost use Rattle.walks.specs.Judged.{rows_in};
 ghost use Rattle.frontier.specs.Chain.{Chained};
-ghost use Rattle.settling.specs.Labels.{labels, arcs_of};
+ghost use Rattle.passing.specs.Lent.{keeps_by};
+ghost use Rattle.settling.specs.Labels.{arcs_of};
 ghost use Rattle.settling.specs.Trace.{fits, into_of, trace_of};
-ghost use Rattle.passing.specs.Asking.{Room, keeps};
 
-use crate::{Into, Labels};
-use frontier::chain::link;
-use passing::{Tests, passes};
+use crate::Labels;
+use crate::task::Task;
+use frontier::chain::Chain;
 
 // Whether a step of weight w leads from the label (l, k) to (l2, k2).
+#[tactic(auto, unfolding(crate::specs::Trace::fits))]
 fn leads(l: u32, k: u32, w: u32, l2: u32, k2: u32) -> bool
     ensures { result ≡ fits l k w l2 k2 }
 {
-    if l as u64 + w as u64 == l2 as u64 {
-        return k as u64 + 1 == k2 as u64;
-    }
-    false
+    l.checked_add(w) == Some(l2) && k.checked_add(1) == Some(k2)
 }
 
-// The lowest-numbered arc by which node `v` has its label, among the arcs chained by their heads.
-fn arc_into(
-    length: &[u32; 512],
-    arcs: &[u32; 512],
-    v: usize,
-    m: usize,
-    tails: &[u32],
-    heads: &[u32],
-    weights: &[u32],
-    closures: &[u8],
-    first: &[u32; 512],
-    next: &[u32; 2048],
-    tests: Tests,
-    boxes: &[i32],
-    masks: &[u32],
-) -> Into
-    requires { let R = rows tails.now heads.now weights.now closures.now in
-        (1 ≤ v) × (v ≤ 512) × Sound 512 m R × Room tests m boxes.now masks.now × Chained m heads.now first.now next.now }
-    ensures { let R = rows tails.now heads.now weights.now closures.now in
-        let L = labels length.now arcs.now [] in
-        result ≡ into_of R (keeps tests closures.now boxes.now masks.now) L v m }
+// The lowest-numbered arc by which node `v` has its label, if any, among the arcs chained by their heads.
+fn arc_into(labels: &Labels, v: usize, task: Task, chain: &Chain) -> Option<usize>
+    requires { (1 ≤ v) × (v ≤ task.tracks.n) × Chained task.tracks.m task.tracks.heads.now chain.now.first chain.now.next }
+    ensures into { let T = task.entry.tracks in
+        result ≡ into_of (rows_in T) (keeps_by task.entry.sieve T.closures.now) labels.now v T.m }
+    ensures within { IfSome result (λ e. (1 ≤ e) × (e ≤ task.entry.tracks.m)) }
 {
-    let l = length[v - 1];
-    let k = arcs[v - 1];
-    let mut j = first[v - 1] as usize;
-    while j < m {
-        if passes(tests, closures, boxes, masks, j + 1) {
-            let u = tails[j] as usize - 1;
-            let from_l = length[u];
-            let from_k = arcs[u];
-            if leads(from_l, from_k, weights[j], l, k) {
-                return Into::Arc(j + 1);
+    let tracks = task.tracks;
+    let l = labels.length[v - 1];
+    let k = labels.arcs[v - 1];
+    let mut j = chain.first[v - 1] as usize;
+    // the chain tells the next place, so no range counts the turns
+    while j < tracks.m {
+        if task.sieve.passes(tracks.closures, j + 1) {
+            let u = tracks.tails[j] as usize - 1;
+            if leads(labels.length[u], labels.arcs[u], tracks.weights[j], l, k) {
+                return Some(j + 1);
             }
         }
-        j = next[j] as usize;
+        j = chain.next[j] as usize;
     }
-    Into::Nothing
+    None
 }
 
-// Writes the route to `t`, source first, into the first places of `route`; the others keep their contents.
-pub fn trace(
-    labels: Labels,
-    t: usize,
-    m: usize,
-    tails: &[u32],
-    heads: &[u32],
-    weights: &[u32],
-    closures: &[u8],
-    tests: Tests,
-    boxes: &[i32],
-    masks: &[u32],
-    route: &mut [u32],
-)
-    requires { (1 ≤ t) × (t ≤ 512) × Sound 512 m (rows tails.now heads.now weights.now closures.now) × Room tests m boxes.now masks.now × (arcs_of labels t ≤ length route.old) }
-    ensures { route.new ≡ trace_of (rows tails.now heads.now weights.now closures.now) (keeps tests closures.now boxes.now masks.now) m labels (arcs_of labels t) t route.old }
+// Writes the route to the task's target, source first, into the first places of `route`; the others keep their contents.
+pub fn trace(labels: &Labels, task: Task, route: &mut [u32])
+    requires { (1 ≤ task.t) × (task.t ≤ task.tracks.n) × (arcs_of labels.now task.t ≤ length route.old) }
+    ensures { let T = task.entry.tracks in
+        let t = task.entry.t in
+        route.new ≡ trace_of (rows_in T) (keeps_by task.entry.sieve T.closures.now) T.m labels.now (arcs_of labels.now t) t route.old }
 {
-    let mut first = [m as u32; 512];
-    let mut next = [0u32; 2048];
-    link(m, heads, &mut first, &mut next);
-    let count = labels.arcs[t - 1] as usize;
-    let length = labels.length;
-    let arcs = labels.arcs;
-    let mut v = t;
-    let mut k = count;
-    while 0 < k {
-        let into = arc_into(
-            &length, &arcs, v, m, tails, heads, weights, closures, &first, &next, tests, boxes,
-            masks,
-        );
-        let Into::Arc(e) = into else {
+    let tracks = task.tracks;
+    let chain = Chain::link(tracks.m, tracks.heads);
+    let count = labels.arcs[task.t - 1] as usize;
+    let mut v = task.t;
+    for k in (0..count).rev() {
+        let Some(e) = arc_into(labels, v, task, &chain) else {
             return;
         };
-        let at = k - 1;
-        route[at] = e as u32;
-        v = tails[e - 1] as usize;
-        k -= 1;
+        route[k] = e as u32;
+        v = tracks.tails[e - 1] as usize;
     }
 }

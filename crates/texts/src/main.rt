@@ -3,23 +3,11 @@
 
 mod show;
 
-ghost use Rattle.io.specs.Counts.{IsPrefixLen};
-
-use files::{File, read_file};
-use printing::{count, text};
+use files::read_file;
+use printing::{number, text};
 use show::{coordinates_of, graph_of};
 use std::io;
 use std::rt::Files;
-
-// The bytes of a file, as many as there are room for.
-fn load(rt: &impl Files, name: &[u8], bytes: &mut [u8]) -> usize
-    ensures { IsPrefixLen result bytes.new }
-{
-    let File::Bytes(n) = read_file(rt, name, bytes) else {
-        return 0;
-    };
-    n
-}
 
 // A graph file: its name, and the reply.
 fn graph(rt: &(impl Files + Print), name: &[u8]) -> io::Result<()> {
@@ -27,7 +15,7 @@ fn graph(rt: &(impl Files + Print), name: &[u8]) -> io::Result<()> {
     text(rt, name)?;
     text(rt, b"\n")?;
     let mut bytes = [0u8; 65537];
-    let n = load(rt, name, &mut bytes);
+    let n = read_file(rt, name, &mut bytes).unwrap_or(0);
     graph_of(rt, &bytes[..n])
 }
 
@@ -36,10 +24,10 @@ fn coordinates(rt: &(impl Files + Print), name: &[u8], nodes: u32) -> io::Result
     text(rt, b"co ")?;
     text(rt, name)?;
     text(rt, b" ")?;
-    count(rt, nodes)?;
+    number(rt, nodes)?;
     text(rt, b"\n")?;
     let mut bytes = [0u8; 65537];
-    let n = load(rt, name, &mut bytes);
+    let n = read_file(rt, name, &mut bytes).unwrap_or(0);
     coordinates_of(rt, &bytes[..n], nodes)
 }
 

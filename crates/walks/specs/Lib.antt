@@ -10,3 +10,5 @@ pub mod Through
 pub mod Rows
 pub mod Checking
 pub mod Settling
+pub mod Lent
+pub mod Judged

@@ -53,6 +53,10 @@ patterns =
 unfoldable pub line_of : ℕ → ℕ → ℕ
 line_of number first = cond (eqb number 5 && eqb first 0) 0 number
 
+-- the pattern of a refusal
+abbrev pub pattern_of : Refusal → List ℕ
+pattern_of r = get_or (map bytes patterns) (line_of (number_of r) (place_of r)) []
+
 -- a pattern up to its first mark, with a value in the mark's place
 unfoldable pub part : ℕ → List ℕ → List ℕ
 part value pattern =
@@ -71,7 +75,7 @@ filled pattern a b =
 
 -- the refusal in words
 unfoldable pub words_text : Refusal → List ℕ
-words_text r = filled (get_or (map bytes patterns) (line_of (number_of r) (place_of r)) []) (place_of r) (second_of r)
+words_text r = filled (pattern_of r) (place_of r) (second_of r)
 
 -- what the console replies: the paper's number, the values, and the words in brackets
 unfoldable pub refusal_line : Refusal → List ℕ

@@ -5,10 +5,10 @@ use mathlib.Core.List.{List, [], ◌∷◌, ◌++◌, map}
 use lib.IntN.{ℤ}
 use lib.ListN.{length, drop, replicate}
 use lib.Dec.{eqb}
+use Rattle.std.specs.Prelude.{Option, Some, None, Ok, Err}
 use Rattle.rules.specs.Paper.{Reply, accepted, refusal}
 use Rattle.rules.specs.declared.Asked.{Asked}
-use Rattle.rules.specs.declared.Judged.{Judged}
-use Rattle.rules.specs.declared.Judged.TheVariants.{Fine, Refused}
+use Rattle.rules.specs.Judging.{Judged}
 use Rattle.rules.specs.declared.Refusal.TheVariants.{NoWalk, Misses}
 use Rattle.scan.specs.declared.holding.Numbers.{Numbers}
 use Rattle.dimacs.specs.Texts as text
@@ -24,7 +24,6 @@ use Rattle.settling.specs.Run.{search_of}
 use Rattle.settling.specs.Trace.{trace_of}
 use Rattle.judging.specs.Order.{search_judged, build_judged, check_judged, update_judged, day_judged}
 use Rattle.drawing.specs.declared.compare.Miss.{Miss}
-use Rattle.drawing.specs.declared.compare.Miss.TheVariants.{Nowhere, First}
 use Rattle.drawing.specs.Drawn.{Kind, Row, box_row, mask_row}
 use Rattle.drawing.specs.Leads.{leads_to}
 use Rattle.drawing.specs.Gathered.{add_place, add_module, gathered}
@@ -36,8 +35,8 @@ use Rattle.worked.specs.Table.{Told}
 
 -- a refusal leaves the rows as they were, else `told` is told
 unfoldable pub or_told : Judged → List ℕ → List ℕ → List ℤ → Told → Told
-or_told (Refused r) numbers closures boxes told = record { reply = refusal r; numbers = numbers; closures = closures; boxes = boxes }
-or_told Fine numbers closures boxes told = told
+or_told (Err r) numbers closures boxes told = record { reply = refusal r; numbers = numbers; closures = closures; boxes = boxes }
+or_told (Ok _) numbers closures boxes told = told
 
 -- ---- Searches
 
@@ -120,23 +119,23 @@ module _ (test : ℕ → ℕ → Bool) (n : ℕ) where
   lowest_node e zero = 0
   lowest_node e (suc k) = cond (eqb (lowest_node e k) 0) (cond (test (suc k) e) (suc k) 0) (lowest_node e k)
 
-  unfoldable pub or_arc : Miss → ℕ → ℕ → Miss
-  or_arc (First e t) k node = First e t
-  or_arc Nowhere k node = cond (eqb node 0) Nowhere (First k node)
+  unfoldable pub or_arc : Option Miss → ℕ → ℕ → Option Miss
+  or_arc (Some miss) k node = Some miss
+  or_arc None k node = cond (eqb node 0) None (Some (record { arc = k; node = node }))
 
   -- of the arcs 1..k
-  unfoldable pub lowest_arc : ℕ → Miss
-  lowest_arc zero = Nowhere
+  unfoldable pub lowest_arc : ℕ → Option Miss
+  lowest_arc zero = None
   lowest_arc (suc k) = or_arc (lowest_arc k) (suc k) (lowest_node (suc k) n)
 
-abbrev pub miss_reply : Miss → Reply
-miss_reply Nowhere = accepted []
-miss_reply (First e t) = refusal (Misses e t)
+abbrev pub miss_reply : Option Miss → Reply
+miss_reply None = accepted []
+miss_reply (Some miss) = refusal (Misses miss.arc miss.node)
 
 -- the first miss, and where there is none another
-abbrev pub or_miss : Miss → Miss → Miss
-or_miss (First e t) other = First e t
-or_miss Nowhere other = other
+abbrev pub or_miss : Option Miss → Option Miss → Option Miss
+or_miss (Some miss) other = Some miss
+or_miss None other = other
 
 -- by the boxes first, and then by the masks
 unfoldable pub check_told : Asked → ℕ → ℕ → Rows → Signs → Told

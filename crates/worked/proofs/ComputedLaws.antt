@@ -7,11 +7,11 @@ use native.Mathlib.Omega.{arith}
 use native.Mathlib.Nat.{mul-suc}
 use native.Mathlib.Numerals.{add-one}
 use lib.IntN.{ℤ}
+use Rattle.std.specs.Prelude.{Option, Some, None, Ok, Err}
 use lib.ListN.{length, drop, replicate, length-replicate}
 use Rattle.rules.specs.Paper.{accepted}
 use Rattle.rules.specs.declared.Asked.{Asked}
-use Rattle.rules.specs.declared.Judged.{Judged}
-use Rattle.rules.specs.declared.Judged.TheVariants.{Fine, Refused}
+use Rattle.rules.specs.Judging.{Judged, fine}
 use Rattle.scan.specs.declared.holding.Numbers.{Numbers}
 use Rattle.dimacs.specs.Texts as text
 use Rattle.dimacs.specs.Reading.{read_p2p}
@@ -22,7 +22,7 @@ use Rattle.geometry.specs.Row.{with_box}
 use Rattle.masks.specs.Says.{LampsSays}
 use Rattle.passing.specs.Signs.{Signs, boxes_alone, box_signs}
 use Rattle.passing.proofs.PassingLaws.{tested_arcs}
-use Rattle.settling.proofs.Choice.{cond_by}
+use Rattle.std.proofs.lemmas.Bool.{cond_both}
 use Rattle.settling.specs.Run.{search_of}
 use Rattle.judging.specs.Order.{search_judged, build_judged, check_judged, update_judged, day_judged}
 use Rattle.judging.proofs.FineLaws.{SearchLent, search_fine, build_fine, check_fine, update_fine}
@@ -30,7 +30,6 @@ use Rattle.search.specs.Says.{Answers, Says, SearchBy, refused, answered}
 use Rattle.search.proofs.Networks.{answers_alike}
 use Rattle.search.proofs.Answering.{found-answers, none_answers}
 use Rattle.drawing.specs.declared.compare.Miss.{Miss}
-use Rattle.drawing.specs.declared.compare.Miss.TheVariants.{Nowhere, First}
 use Rattle.drawing.specs.Drawn.{Kind, Row, box_row, Drawn, DrawnIf}
 use Rattle.drawing.specs.Gathered.{add_place, add_module, Emptied}
 use Rattle.drawing.specs.Missed.{misses_node, IsFirst}
@@ -50,17 +49,17 @@ use Rattle.worked.specs.Table.{Told}
 
 -- ---- Searches
 
-says_told : {N : Net} {n s t : ℕ} {row : List ℕ} (j : Judged) (told : Told) → (j ≡ Fine → Answers N n s t row told.reply told.numbers)
+says_told : {N : Net} {n s t : ℕ} {row : List ℕ} (j : Judged) (told : Told) → (j ≡ fine → Answers N n s t row told.reply told.numbers)
     → Says j N n s t row (or_told j row [] [] told).reply (or_told j row [] [] told).numbers
 unfolding or_told
-says_told (Refused r) told h = refused refl
-says_told Fine told h = answered refl (h refl)
+says_told (Err r) told h = refused refl
+says_told (Ok _) told h = answered refl (h refl)
 
 answer_told : {n m : ℕ} {R : Rows} (keep : ℕ → Bool) (s t : ℕ) (row : List ℕ) → SearchLent n m R s t (length row)
     → let told = answer_of R keep m t row (search_of R keep n m t s) in Answers (kept keep (laid m R)) n s t row told.reply told.numbers
 unfolding answer_of
 answer_told {n} {m} {R} keep s t row l =
-    cond_by (λ (z : Told). Answers (kept keep (laid m R)) n s t row z.reply z.numbers) (search_of R keep n m t s).found _ _
+    cond_both (search_of R keep n m t s).found _ _ (λ (z : Told). Answers (kept keep (laid m R)) n s t row z.reply z.numbers)
     (λ e. found-answers l.sound keep s t l.source_low l.source_high row l.room refl e refl)
     (λ e. none_answers l.sound keep s t l.source_low l.source_high row l.room refl e)
 
@@ -90,8 +89,8 @@ module _ (n m : ℕ) (R : Rows) (x y boxes : List ℤ) where
         (record { reply = accepted (with_route replies ∷ with_none replies ∷ total replies ∷ []); numbers = map entry replies ++ drop (length replies) before; closures = []; boxes = [] }) in
         DaySays lines n m R x y boxes before told.reply told.numbers
     unfolding or_told
-    rows_told problem queries (Refused r) e j = day.rows-refused e j
-    rows_told problem queries Fine e j =
+    rows_told problem queries (Err r) e j = day.rows-refused e j
+    rows_told problem queries (Ok _) e j =
         day.answered e j (separate_replies n m R x y boxes j (read_named lines n before problem queries e) (separate_told queries))
 
     text_told : (o : text.Outcome) → read_p2p lines n before ≡ o
@@ -130,8 +129,8 @@ module _ (asked : Asked) (n m : ℕ) (R : Rows) (G : Signs) where
       → let told = or_told j G.masks [] G.boxes (record { reply = accepted []; numbers = masks_built n m R asked G; closures = []; boxes = boxes_built n m R asked G }) in
       BuildBy asked n m R G told.reply told.boxes told.numbers
   unfolding or_told
-  build_by (Refused r) e = Builds.refused e
-  build_by Fine e =
+  build_by (Err r) e = Builds.refused e
+  build_by (Ok _) e =
       let l = build_fine asked n m R G e in
       let b = drawn_if_lem puts_box {Is = Emptied mark} (λ e b. mark) asked.boxes m G.boxes (λ h. (l.places h).boxes_long) (λ e low high. refl) in
       let k = drawn_if_lem (puts_single 0) {Is = Emptied 0} (λ e b. 0) asked.masks m G.masks (λ h. omega (arith, (l.modules h).masks_long)) (λ e low high. refl) in
@@ -152,8 +151,8 @@ module _ (n m : ℕ) (R : Rows) (x y boxes : List ℤ) (arc weight closure : ℕ
       (record { reply = accepted []; numbers = S.weights; closures = S.closures; boxes = drawn_to box_row with_box (all_added n m S (add_place x y)) m boxes }) in
       UpdateSays n m R x y boxes arc weight closure told.reply (rows R.tails R.heads told.numbers told.closures) told.boxes
   unfolding or_told
-  update_by (Refused r) e = Updates.refused e
-  update_by Fine e =
+  update_by (Err r) e = Updates.refused e
+  update_by (Ok _) e =
       let u = update_fine boxes_alone n m R (box_signs x y boxes) arc weight closure e in
       let l = (check_fine boxes_alone n m R (box_signs x y boxes) u.0).lent in
       updated_says n R arc weight closure e refl
@@ -167,15 +166,15 @@ module _ (n m : ℕ) (R : Rows) (x y boxes : List ℤ) (arc weight closure : ℕ
 -- ---- Check
 
 module _ (asked : Asked) (n m : ℕ) (R : Rows) (G : Signs) where
-  check_missed : check_judged asked n m R G ≡ Fine → (a b : Miss) → IsFirst (misses_node R n m (boxes_of asked) G) n m a → IsFirst (misses_node R n m (masks_of asked) G) n m b
+  check_missed : check_judged asked n m R G ≡ fine → (a b : Option Miss) → IsFirst (misses_node R n m (boxes_of asked) G) n m a → IsFirst (misses_node R n m (masks_of asked) G) n m b
       → CheckBy asked n m R G (miss_reply (or_miss a b))
-  check_missed f (First e t) b p q =
+  check_missed f (Some miss) b p q =
       let l = (check_fine asked n m R G f).lent in
       Checks.box_missed f (missed_first l.sound (boxes_of asked) G (λ h. absurd (false≢true h)) p)
-  check_missed f Nowhere (First e t) p q =
+  check_missed f None (Some miss) p q =
       let l = (check_fine asked n m R G f).lent in
       Checks.mask_missed f (missed_none l.sound (boxes_of asked) G (λ h. absurd (false≢true h)) p) (missed_first l.sound (masks_of asked) G (λ h. (l.modules h).numbers) q)
-  check_missed f Nowhere Nowhere p q =
+  check_missed f None None p q =
       let l = (check_fine asked n m R G f).lent in
       Checks.consistent f (by_both_lem (missed_none l.sound (boxes_of asked) G (λ h. absurd (false≢true h)) p) (missed_none l.sound (masks_of asked) G (λ h. (l.modules h).numbers) q))
 
@@ -183,8 +182,8 @@ module _ (asked : Asked) (n m : ℕ) (R : Rows) (G : Signs) where
       → let miss = or_miss (lowest_arc (misses_node R n m (boxes_of asked) G) n m) (lowest_arc (misses_node R n m (masks_of asked) G) n m) in
       CheckBy asked n m R G (or_told j [] [] [] (record { reply = miss_reply miss; numbers = []; closures = []; boxes = [] })).reply
   unfolding or_told
-  check_by (Refused r) e = Checks.refused e
-  check_by Fine e =
+  check_by (Err r) e = Checks.refused e
+  check_by (Ok _) e =
       let boxes = misses_node R n m (boxes_of asked) G in
       let masks = misses_node R n m (masks_of asked) G in
       check_missed e (lowest_arc boxes n m) (lowest_arc masks n m) (lowest_arc_lem boxes n m) (lowest_arc_lem masks n m)

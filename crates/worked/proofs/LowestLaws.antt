@@ -6,9 +6,9 @@ use native.Mathlib.Omega.{arith}
 use native.Mathlib.Decide.{ℕ_discrete}
 use borrow.Author.Tests.{eqb-true, eqb-false}
 use lib.Dec.{eqb}
-use Rattle.settling.proofs.Choice.{cond_by}
+use Rattle.std.specs.Prelude.{Option, Some, None}
+use Rattle.std.proofs.lemmas.Bool.{cond_both}
 use Rattle.drawing.specs.declared.compare.Miss.{Miss}
-use Rattle.drawing.specs.declared.compare.Miss.TheVariants.{Nowhere, First}
 use Rattle.drawing.specs.Missed.{IsFirst}
 use Rattle.worked.proofs.Computed.{lowest_node, or_arc, lowest_arc}
 
@@ -26,8 +26,8 @@ module _ (test : ℕ → ℕ → Bool) (n : ℕ) where
   lowest_node_lem e (suc k) =
       let r = lowest_node_lem e k in
       let v = lowest_node test n e k in
-      cond_by (Node e (suc k)) (eqb v 0) _ _
-      (λ z. let v0 = eqb-true v 0 z in cond_by (Node e (suc k)) (test (suc k) e) _ _
+      cond_both (eqb v 0) _ _ (Node e (suc k))
+      (λ z. let v0 = eqb-true v 0 z in cond_both (test (suc k) e) _ _ (Node e (suc k))
       (λ p. record {
         most = omega arith;
         none = λ q. absurd (omega arith);
@@ -47,9 +47,9 @@ module _ (test : ℕ → ℕ → Bool) (n : ℕ) where
         first = r.first;
       })
 
-  or_arc_lem : (k : ℕ) (found : Miss) (v : ℕ) → IsFirst test n k found → Node (suc k) n v → IsFirst test n (suc k) (or_arc test n found (suc k) v)
+  or_arc_lem : (k : ℕ) (found : Option Miss) (v : ℕ) → IsFirst test n k found → Node (suc k) n v → IsFirst test n (suc k) (or_arc test n found (suc k) v)
   unfolding or_arc
-  or_arc_lem k (First e t) v h r = record {
+  or_arc_lem k (Some miss) v h r = record {
     arc_low = h.arc_low;
     arc_high = omega (arith, h.arc_high);
     node_low = h.node_low;
@@ -58,8 +58,8 @@ module _ (test : ℕ → ℕ → Bool) (n : ℕ) where
     arc_first = h.arc_first;
     node_first = h.node_first;
   }
-  or_arc_lem k Nowhere v h r =
-      cond_by (IsFirst test n (suc k)) (eqb v 0) _ _
+  or_arc_lem k None v h r =
+      cond_both (eqb v 0) _ _ (IsFirst test n (suc k))
       (λ z. λ t e a b c d. elim (ℕ_discrete e (suc k)) [ yes same ↦ ap (test t) same ∙ r.none (eqb-true v 0 z) t a b | no other ↦ h t e a b c (omega arith) ])
       (λ z. record {
         arc_low = omega arith;

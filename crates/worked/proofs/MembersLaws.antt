@@ -8,7 +8,7 @@ use native.Mathlib.Omega.{arith}
 use native.Mathlib.Decide.{ℕ_discrete}
 use Rattle.walks.specs.Rows.{Rows, Sound, network}
 use Rattle.walks.specs.Through.{InS}
-use Rattle.settling.proofs.Choice.{cond_by}
+use Rattle.std.proofs.lemmas.Bool.{cond_both}
 use Rattle.drawing.specs.Leads.{leads_to}
 use Rattle.reasons.specs.Using.{Among}
 use Rattle.boxwork.proofs.TightLaws.{InS_range}
@@ -20,7 +20,7 @@ module _ (leads : ℕ → Bool) where
   unfolding members_from
   members_in zero t v = λ h. absurd h
   members_in (suc fuel) t v =
-      cond_by (λ (us : List ℕ). Among v us → (t ≤ v) × (v < t + suc fuel) × (leads v ≡ true)) (leads t) _ _
+      cond_both (leads t) _ _ (λ (us : List ℕ). Among v us → (t ≤ v) × (v < t + suc fuel) × (leads v ≡ true))
       (λ p. ⊎_elim (λ same. (omega arith, omega arith, ap leads same ∙ p)) (λ h. let r = members_in fuel (t + 1) v h in (omega (arith, r.0), omega (arith, r.1), r.2)))
       (λ p h. let r = members_in fuel (t + 1) v h in (omega (arith, r.0), omega (arith, r.1), r.2))
 
@@ -28,7 +28,7 @@ module _ (leads : ℕ → Bool) where
   unfolding members_from
   in_members zero t v low high h = absurd (omega arith)
   in_members (suc fuel) t v low high h =
-      cond_by (Among v) (leads t) _ _
+      cond_both (leads t) _ _ (Among v)
       (λ p. elim (ℕ_discrete v t) [ yes same ↦ inl same | no other ↦ inr (in_members fuel (t + 1) v (omega arith) (omega arith) h) ])
       (λ p. elim (ℕ_discrete v t) [ yes same ↦ absurd (false≢true (sym p ∙ (ap leads (sym same) ∙ h))) | no other ↦ in_members fuel (t + 1) v (omega arith) (omega arith) h ])
 

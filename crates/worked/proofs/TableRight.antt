@@ -11,10 +11,10 @@ use Rattle.rules.specs.Judging.{each, is_fine}
 use Rattle.rules.proofs.AndLaws.{and_true}
 use Rattle.rules.proofs.JudgingLaws.{is_fine_lem}
 use Rattle.scan.specs.Ascii.{bytes}
-use Rattle.scan.specs.Pieces.{opening, pieces, first_at, same_bytes}
-use Rattle.scan.specs.Numbers.{value_from, natural_of, plain, negated, integer_of}
+use Rattle.scan.specs.Pieces.{opening, pieces, first_at}
+use Rattle.scan.specs.Numbers.{value_from, natural_of, negated, integer_of}
 use Rattle.scan.specs.Fields as fields
-use Rattle.scan.specs.Fields.{taken_natural, taken_integer, on_field, matched}
+use Rattle.scan.specs.Fields.{on_field, matched}
 use Rattle.scan.specs.Line.{line_of}
 use Rattle.dimacs.specs.Rules.{within}
 use Rattle.dimacs.specs.P2p.{p2p_line, p2p_rules}
@@ -105,7 +105,7 @@ unfolding
     before start_of labelled offered marked arc_step relaxed settle_of better leader_of nearest_of after_pick run_of
     fits first_of arc_fits into_of after_into trace_of on_shortest leads_at lengths_to add_if gathered misses_node bit lighted modules_from
     is_among reason_by reason_of judged_reply reply_of
-    bytes opening pieces first_at same_bytes value_from natural_of plain negated integer_of fields.before taken_natural taken_integer fields.taken on_field matched line_of
+    bytes opening pieces first_at value_from natural_of negated integer_of fields.before fields.taken on_field matched line_of
     within p2p_line p2p_rules problem_judged data_judged judged ended next on_judged read_lines read_text read_p2p
     answers day_judged with_route with_none total replies_told day_told
 table_right = each_right table refl

@@ -15,7 +15,8 @@ use Rattle.masks.specs.Says.{LampsSays}
 use Rattle.passing.specs.Signs.{Signs, signs, nothing, boxes_alone, masks_alone}
 use Rattle.search.specs.Says.{SearchBy}
 use Rattle.reasons.specs.Using.{Among}
-use Rattle.reasons.specs.Reason.{Reason, closed, cut_off, longer, tied, on_route}
+use Rattle.reasons.specs.declared.Reason.{Reason}
+use Rattle.reasons.specs.declared.Reason.TheVariants.{Closed as closed, CutOff as cut_off, Longer as longer, Tied as tied, OnRoute as on_route}
 use Rattle.reasons.specs.Paper as reasons
 use Rattle.reasons.specs.Says.{WhySays}
 use Rattle.boxwork.specs.Says.{BuildBy, CheckBy, UpdateSays}

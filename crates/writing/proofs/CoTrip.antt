@@ -1,4 +1,6 @@
 -- The same for coordinates.
+use Rattle.std.specs.Prelude.{Ok}
+use Rattle.rules.specs.Judging.{Judged}
 use mathlib.Core.Path.{◌≡◌, refl, sym, ap, subst, ◌∙◌}
 use mathlib.Core.List.{List, [], ◌∷◌, ◌++◌, map}
 use mathlib.Core.Bool.{Bool, true, false}
@@ -16,18 +18,15 @@ use Rattle.scan.specs.Fields.{none}
 use Rattle.scan.specs.Decimal.{decimal, whole}
 use Rattle.scan.specs.Written.{line_text, closed, listed}
 use Rattle.scan.specs.declared.holding.Numbers.{Numbers}
-use Rattle.scan.specs.declared.line.Line.TheVariants.{Problem, Data}
-use Rattle.dimacs.specs.Rules.{axis_of, naturals, located, within}
+use Rattle.scan.specs.declared.line.Line.TheVariants.{Problem}
+use Rattle.dimacs.specs.Rules.{naturals, located, within}
 use Rattle.dimacs.specs.Co.{co_problem, co_node, co_line, co_rules}
 use Rattle.dimacs.specs.Texts.{Outcome, read, refused, start, read_lines, read_text}
 use Rattle.dimacs.specs.Rows.{row}
 use Rattle.dimacs.specs.Reading.{read_co, co_says}
 use Rattle.dimacs.specs.Promise.{CoPromise}
 use Rattle.dimacs.specs.Accepted.{CoLimits}
-use Rattle.dimacs.specs.declared.CoReply.{CoReply}
-use Rattle.dimacs.specs.declared.CoReply.TheVariants.{Read as CoRead}
 use Rattle.dimacs.specs.declared.format.Format.TheVariants.{Coordinates}
-use Rattle.dimacs.specs.declared.rows.Axis.TheVariants.{X, Y}
 use Rattle.dimacs.proofs.Fairness.{Inside, inside}
 use Rattle.dimacs.proofs.Sound.{Entry}
 use Rattle.dimacs.proofs.Accepted.{co_count, co_nodes, not_accepted, front, co_read as co-accepted}
@@ -40,6 +39,7 @@ use Rattle.writing.specs.Plain.{nodes_of, Ascending, PlainCo}
 use Rattle.scan.proofs.WrittenLaws.{Without, more, lines_closed, closed_lines, last_closed, listed_long, listed_at, listed-map, map-listed}
 use Rattle.scan.proofs.FormLaws.{uncommented}
 use Rattle.writing.proofs.FormLaws.{node_clear, co_clear, co_spelt, node_spelt, co_written, node_written, co_read, node_read}
+use Rattle.writing.proofs.TextLaws.{data_of}
 use Rattle.writing.proofs.BeginLaws.{open_line, read_all, begun, in_order, lines_of_lem}
 use Rattle.writing.proofs.LengthLaws.{co_most}
 use Rattle.writing.proofs.GrTrip.{line_clear, clear_listed, together}
@@ -92,8 +92,8 @@ module _ (n : ℕ) (some : 1 ≤ n) (few : n ≤ 512) (x y : List ℤ) (g : CoLi
   co_text_read =
       let F = Coordinates n in
       let first = line_text co_problem (decimal n ∷ []) in
-      let same = map-listed co_line (node_text x y) (λ (v : ℕ). Data (node_numbers x y v)) (λ v. node_written v (coordinate x v) (coordinate y v)) n in
-      let also = map-listed Data (node_numbers x y) (λ (v : ℕ). Data (node_numbers x y v)) (λ v. refl) n in
+      let same = map-listed co_line (node_text x y) (λ (v : ℕ). data_of (node_numbers x y v)) (λ v. node_written v (coordinate x v) (coordinate y v)) n in
+      let also = map-listed data_of (node_numbers x y) (λ (v : ℕ). data_of (node_numbers x y v)) (λ v. refl) n in
       ap (λ (ls : List (List ℕ)). read_lines F ls 1 start) (co_lines n x y)
       ∙ (open_line F (naturals n 0 0) first (listed (node_text x y) n) (co_written n) (problem_within n some few) (omega arith) (omega arith)
       ∙ read_all F (naturals n 0 0) (listed (node_text x y) n) (listed (node_numbers x y) n) (same ∙ sym also) (listed_long (node_numbers x y) n) (omega arith)
@@ -113,18 +113,18 @@ module _ (n : ℕ) (some : 1 ≤ n) (few : n ≤ 512) (x y : List ℤ) (g : CoLi
         ∙ (ap f (listed_at (node_numbers x y) n i none h) ∙ e)
 
     -- whoever reads the text that was written gets each coordinate, whatever rows are lent
-    pub read_written_co : (r : CoReply) (a' b' : List ℤ) → CoPromise (co_text n x y) n a b r a' b'
-        → (r ≡ CoRead) × ((i : ℕ) → i < n → (get_or a' i (pos 0) ≡ get_or x i (pos 0)) × (get_or b' i (pos 0) ≡ get_or y i (pos 0)))
+    pub read_written_co : (r : Judged) (a' b' : List ℤ) → CoPromise (co_text n x y) n a b r a' b'
+        → (r ≡ (Ok tt)) × ((i : ℕ) → i < n → (get_or a' i (pos 0) ≡ get_or x i (pos 0)) × (get_or b' i (pos 0) ≡ get_or y i (pos 0)))
     unfolding co_says row
     read_written_co r a' b' p =
         let reply = p.reply ∙ ap co_says co_back in
-        let ta = p.x_left ∙ ap (λ (o : Outcome). row (axis_of X) o a) co_back in
-        let tb = p.y_left ∙ ap (λ (o : Outcome). row (axis_of Y) o b) co_back in
+        let ta = p.x_left ∙ ap (λ (o : Outcome). row (λ (ns : Numbers). ns.x) o a) co_back in
+        let tb = p.y_left ∙ ap (λ (o : Outcome). row (λ (ns : Numbers). ns.y) o b) co_back in
         let one : (i : ℕ) → i + 1 - 1 ≡ i = λ i. omega arith in (
-          co_reply_injective r CoRead reply,
+          co_reply_injective r (Ok tt) reply,
           λ i h. (
-            rw ta (back_at (axis_of X) a x i h (ap (λ (k : ℕ). get_or x k (pos 0)) (one i))),
-            rw tb (back_at (axis_of Y) b y i h (ap (λ (k : ℕ). get_or y k (pos 0)) (one i))),
+            rw ta (back_at (λ (ns : Numbers). ns.x) a x i h (ap (λ (k : ℕ). get_or x k (pos 0)) (one i))),
+            rw tb (back_at (λ (ns : Numbers). ns.y) b y i h (ap (λ (k : ℕ). get_or y k (pos 0)) (one i))),
           ),
         )
 
@@ -133,17 +133,17 @@ module _ (n : ℕ) (some : 1 ≤ n) (few : n ≤ 512) (x y : List ℤ) (g : CoLi
 abbrev node_of : Numbers → ℕ
 node_of ns = ns.first
 
-nodes_of_lem : (ls : List (List ℕ)) (nss : List Numbers) → map co_line ls ≡ map Data nss → nodes_of ls ≡ map node_of nss
+nodes_of_lem : (ls : List (List ℕ)) (nss : List Numbers) → map co_line ls ≡ map data_of nss → nodes_of ls ≡ map node_of nss
 unfolding nodes_of
 nodes_of_lem [] [] e = refl
-nodes_of_lem [] (ns ∷ nss) e = absurd (let z : ◌≡◌ {A = ℕ} 0 1 = cc in omega arith)
-nodes_of_lem (l ∷ ls) [] e = absurd (let z : ◌≡◌ {A = ℕ} 0 1 = cc in omega arith)
+nodes_of_lem [] (ns ∷ nss) e = cc
+nodes_of_lem (l ∷ ls) [] e = cc
 nodes_of_lem (l ∷ ls) (ns ∷ nss) e =
-    let a : co_line l ≡ Data ns = cc in
-    let b : map co_line ls ≡ map Data nss = cc in
+    let a : co_line l ≡ data_of ns = cc in
+    let b : map co_line ls ≡ map data_of nss = cc in
     rw (a, nodes_of_lem ls nss b)
 
-nodes_after : (l : List ℕ) (p : Numbers) (ls : List (List ℕ)) → co_line l ≡ Problem p → nodes_of (l ∷ ls) ≡ nodes_of ls
+nodes_after : (l : List ℕ) (p : Numbers) (ls : List (List ℕ)) → co_line l ≡ Ok (Problem p) → nodes_of (l ∷ ls) ≡ nodes_of ls
 unfolding nodes_of
 nodes_after l p ls e = rw e
 
@@ -190,8 +190,8 @@ co_plain n x y = record {
 
     ids : nodes_of (listed (node_text x y) n) ≡ listed (λ (v : ℕ). v) n
     ids =
-        let same = map-listed co_line (node_text x y) (λ (v : ℕ). Data (node_numbers x y v)) (λ v. node_written v (coordinate x v) (coordinate y v)) n in
-        let also = map-listed Data (node_numbers x y) (λ (v : ℕ). Data (node_numbers x y v)) (λ v. refl) n in
+        let same = map-listed co_line (node_text x y) (λ (v : ℕ). data_of (node_numbers x y v)) (λ v. node_written v (coordinate x v) (coordinate y v)) n in
+        let also = map-listed data_of (node_numbers x y) (λ (v : ℕ). data_of (node_numbers x y v)) (λ v. refl) n in
         nodes_of_lem (listed (node_text x y) n) (listed (node_numbers x y) n) (same ∙ sym also) ∙ map-listed node_of (node_numbers x y) (λ (v : ℕ). v) (λ v. refl) n
 
     rises : (i : ℕ) → i + 1 < length (listed (λ (v : ℕ). v) n) → get_or (listed (λ (v : ℕ). v) n) i 0 < get_or (listed (λ (v : ℕ). v) n) (i + 1) 0
@@ -224,15 +224,15 @@ plain-co_text n few text p lines e t =
 
 -- the rows of a text that was read
 co_rows : (n : ℕ) (lines : List Numbers) (a b : List ℤ) → length lines ≡ n → ((i : ℕ) → i < n → (get_or lines i none).first ≡ i + 1)
-    → listed (node_text (map (axis_of X) lines ++ a) (map (axis_of Y) lines ++ b)) n ≡ map line_of_node lines
+    → listed (node_text (map (λ (ns : Numbers). ns.x) lines ++ a) (map (λ (ns : Numbers). ns.y) lines ++ b)) n ≡ map line_of_node lines
 co_rows n lines a b e h =
     rw (← e)
-    (listed-map line_of_node lines none (node_text (map (axis_of X) lines ++ a) (map (axis_of Y) lines ++ b)) (λ i k.
+    (listed-map line_of_node lines none (node_text (map (λ (ns : Numbers). ns.x) lines ++ a) (map (λ (ns : Numbers). ns.y) lines ++ b)) (λ i k.
     let one : i + 1 - 1 ≡ i = omega arith in
-    rw (one, front (axis_of X) lines a i (pos 0) k, front (axis_of Y) lines b i (pos 0) k, h i (omega arith))))
+    rw (one, front (λ (ns : Numbers). ns.x) lines a i (pos 0) k, front (λ (ns : Numbers). ns.y) lines b i (pos 0) k, h i (omega arith))))
 
 -- what was read is written as it was, exactly where it was plain
-pub write_read_co : (text : List ℕ) (n : ℕ) (a b a' b' : List ℤ) → CoPromise text n a b CoRead a' b'
+pub write_read_co : (text : List ℕ) (n : ℕ) (a b a' b' : List ℤ) → CoPromise text n a b (Ok tt) a' b'
     → (co_text n a' b' ≡ text → PlainCo text) × (PlainCo text → co_text n a' b' ≡ text)
 unfolding co_says row co_text
 write_read_co text n a b a' b' q =
@@ -242,7 +242,7 @@ write_read_co text n a b a' b' q =
         → ((p : Numbers) (lines : List Numbers) → o ≡ read p lines → (1 ≤ n) × (n ≤ 512) × (read_text (Coordinates n) text ≡ read p lines))
         → ((p : Numbers) (lines : List Numbers) → o ≡ read p lines → (length lines ≡ n) × ((i : ℕ) → i < n → (get_or lines i none).first ≡ i + 1))
         → accepted [] ≡ co_says o
-        → a' ≡ row (axis_of X) o a → b' ≡ row (axis_of Y) o b → co_text n a' b' ≡ text
+        → a' ≡ row (λ (ns : Numbers). ns.x) o a → b' ≡ row (λ (ns : Numbers). ns.y) o b → co_text n a' b' ≡ text
     by_outcome t (read p lines) from nodes d ta tb =
         let f = from p lines refl in
         let w = nodes p lines refl in

@@ -4,14 +4,14 @@ use mathlib.Core.List.{List, [], ◌∷◌, ◌++◌}
 use Prim.Native.Nat.{ℕ, ◌<◌}
 use native.Mathlib.Omega.{arith}
 use lib.IntN.{ℤ}
+use Rattle.std.specs.Prelude.{Ok}
 use Rattle.scan.specs.Ascii.{bytes}
-use Rattle.scan.specs.Pieces.{opening, pieces, fields_of, first_at, same_bytes}
+use Rattle.scan.specs.Pieces.{opening, pieces, fields_of, first_at}
 use Rattle.scan.specs.Decimal.{decimal, whole}
 use Rattle.scan.specs.Written.{filled, spread, joined, line_text}
-use Rattle.scan.specs.Fields.{before, taken_natural, taken, on_field, matched}
+use Rattle.scan.specs.Fields.{before, taken, on_field, matched}
 use Rattle.scan.specs.declared.holding.Numbers.{Numbers}
 use Rattle.scan.specs.declared.holding.Value.TheVariants.{Unsigned, Signed}
-use Rattle.scan.specs.declared.fields.Fields.TheVariants.{Read}
 use Rattle.scan.specs.declared.line.Line.TheVariants.{Problem, Data}
 use Rattle.scan.proofs.DecimalLaws.{natural_written, integer_written}
 use Rattle.scan.proofs.WrittenLaws.{Clear, empty, more, joined_fields}
@@ -58,29 +58,29 @@ node_spelt v x y = refl
 
 -- ---- a line that is written is read
 
-pub arc_written : (u v w : ℕ) → gr_line (line_text gr_arc (decimal u ∷ decimal v ∷ decimal w ∷ [])) ≡ Data (naturals u v w)
-unfolding gr_line bytes pieces opening first_at same_bytes matched on_field before taken taken_natural
+pub arc_written : (u v w : ℕ) → gr_line (line_text gr_arc (decimal u ∷ decimal v ∷ decimal w ∷ [])) ≡ Ok (Data (naturals u v w))
+unfolding gr_line bytes pieces opening first_at matched on_field before taken
 arc_written u v w =
     rw (arc_spelt (decimal u) (decimal v) (decimal w))
     (data_written gr_problem gr_arc 97 (decimal u) (decimal v ∷ decimal w ∷ []) (λ e. omega arith) (arc_clear 32 (omega arith) u v w) (naturals u v w) refl refl
     (rw (natural_written u, natural_written v, natural_written w)))
 
-pub gr_written : (n m : ℕ) → gr_line (line_text gr_problem (decimal n ∷ decimal m ∷ [])) ≡ Problem (naturals n m 0)
-unfolding gr_line bytes pieces opening first_at same_bytes matched on_field before taken taken_natural
+pub gr_written : (n m : ℕ) → gr_line (line_text gr_problem (decimal n ∷ decimal m ∷ [])) ≡ Ok (Problem (naturals n m 0))
+unfolding gr_line bytes pieces opening first_at matched on_field before taken
 gr_written n m =
     rw (gr_spelt (decimal n) (decimal m))
     (problem_written gr_problem gr_arc 112 (115 ∷ 112 ∷ []) (decimal n ∷ decimal m ∷ []) (λ e. omega arith) (gr_clear 32 (omega arith) n m) (naturals n m 0) refl refl refl
     (rw (natural_written n, natural_written m)))
 
-pub co_written : (n : ℕ) → co_line (line_text co_problem (decimal n ∷ [])) ≡ Problem (naturals n 0 0)
-unfolding co_line bytes pieces opening first_at same_bytes matched on_field before taken taken_natural
+pub co_written : (n : ℕ) → co_line (line_text co_problem (decimal n ∷ [])) ≡ Ok (Problem (naturals n 0 0))
+unfolding co_line bytes pieces opening first_at matched on_field before taken
 co_written n =
     rw (co_spelt (decimal n))
     (problem_written co_problem co_node 112 (97 ∷ 117 ∷ 120 ∷ []) ((115 ∷ 112 ∷ []) ∷ (99 ∷ 111 ∷ []) ∷ decimal n ∷ []) (λ e. omega arith) (co_clear 32 (omega arith) n) (naturals n 0 0) refl refl refl
     (rw (natural_written n)))
 
-pub node_written : (v : ℕ) (x y : ℤ) → co_line (line_text co_node (decimal v ∷ whole x ∷ whole y ∷ [])) ≡ Data (located v x y)
-unfolding co_line bytes pieces opening first_at same_bytes matched on_field before taken taken_natural
+pub node_written : (v : ℕ) (x y : ℤ) → co_line (line_text co_node (decimal v ∷ whole x ∷ whole y ∷ [])) ≡ Ok (Data (located v x y))
+unfolding co_line bytes pieces opening first_at matched on_field before taken
 node_written v x y =
     rw (node_spelt (decimal v) (whole x) (whole y))
     (data_written co_problem co_node 118 (decimal v) (whole x ∷ whole y ∷ []) (λ e. omega arith) (node_clear 32 (omega arith) v x y) (located v x y) refl refl
@@ -88,7 +88,7 @@ node_written v x y =
 
 -- ---- a line that was read is written
 
-arc_matched : (fs : List (List ℕ)) (ns : Numbers) → matched (fields_of gr_arc) 1 fs ≡ Read ns
+arc_matched : (fs : List (List ℕ)) (ns : Numbers) → matched (fields_of gr_arc) 1 fs ≡ Ok ns
     → (fs ≡ (97 ∷ []) ∷ decimal ns.first ∷ decimal ns.second ∷ decimal ns.third ∷ [])
 unfolding bytes pieces opening before
 arc_matched fs ns e =
@@ -102,7 +102,7 @@ arc_matched fs ns e =
     then_more _ a.2 (then_more _ b.4 (then_more _ c.4 (then_more _ d.4 z.0)))
     ∙ ap (λ (m : Numbers). (97 ∷ []) ∷ decimal m.first ∷ decimal m.second ∷ decimal m.third ∷ []) whole
 
-gr_matched : (fs : List (List ℕ)) (ns : Numbers) → matched (fields_of gr_problem) 1 fs ≡ Read ns
+gr_matched : (fs : List (List ℕ)) (ns : Numbers) → matched (fields_of gr_problem) 1 fs ≡ Ok ns
     → (fs ≡ (112 ∷ []) ∷ (115 ∷ 112 ∷ []) ∷ decimal ns.first ∷ decimal ns.second ∷ [])
 unfolding bytes pieces opening before
 gr_matched fs ns e =
@@ -116,7 +116,7 @@ gr_matched fs ns e =
     then_more _ a.2 (then_more _ b.2 (then_more _ c.4 (then_more _ d.4 z.0)))
     ∙ ap (λ (m : Numbers). (112 ∷ []) ∷ (115 ∷ 112 ∷ []) ∷ decimal m.first ∷ decimal m.second ∷ []) whole
 
-co_matched : (fs : List (List ℕ)) (ns : Numbers) → matched (fields_of co_problem) 1 fs ≡ Read ns
+co_matched : (fs : List (List ℕ)) (ns : Numbers) → matched (fields_of co_problem) 1 fs ≡ Ok ns
     → (fs ≡ (112 ∷ []) ∷ (97 ∷ 117 ∷ 120 ∷ []) ∷ (115 ∷ 112 ∷ []) ∷ (99 ∷ 111 ∷ []) ∷ decimal ns.first ∷ [])
 unfolding bytes pieces opening before
 co_matched fs ns e =
@@ -130,7 +130,7 @@ co_matched fs ns e =
     then_more _ a.2 (then_more _ b.2 (then_more _ c.2 (then_more _ d.2 (then_more _ f.4 z.0))))
     ∙ ap (λ (m : Numbers). (112 ∷ []) ∷ (97 ∷ 117 ∷ 120 ∷ []) ∷ (115 ∷ 112 ∷ []) ∷ (99 ∷ 111 ∷ []) ∷ decimal m.first ∷ []) whole
 
-node_matched : (fs : List (List ℕ)) (ns : Numbers) → matched (fields_of co_node) 1 fs ≡ Read ns
+node_matched : (fs : List (List ℕ)) (ns : Numbers) → matched (fields_of co_node) 1 fs ≡ Ok ns
     → (fs ≡ (118 ∷ []) ∷ decimal ns.first ∷ whole ns.x ∷ whole ns.y ∷ [])
 unfolding bytes pieces opening before
 node_matched fs ns e =
@@ -144,25 +144,25 @@ node_matched fs ns e =
     then_more _ a.2 (then_more _ b.4 (then_more _ c.4 (then_more _ d.4 z.0)))
     ∙ ap (λ (m : Numbers). (118 ∷ []) ∷ decimal m.first ∷ whole m.x ∷ whole m.y ∷ []) all
 
-pub arc_read : (s : List ℕ) (ns : Numbers) → gr_line s ≡ Data ns → s ≡ line_text gr_arc (decimal ns.first ∷ decimal ns.second ∷ decimal ns.third ∷ [])
+pub arc_read : (s : List ℕ) (ns : Numbers) → gr_line s ≡ Ok (Data ns) → s ≡ line_text gr_arc (decimal ns.first ∷ decimal ns.second ∷ decimal ns.third ∷ [])
 unfolding gr_line joined
 arc_read s ns e =
     let m = arc_matched (fields_of s) ns (line_data gr_problem gr_arc s ns e) in
     sym (joined_fields s) ∙ (ap joined m ∙ sym (arc_spelt (decimal ns.first) (decimal ns.second) (decimal ns.third)))
 
-pub gr_read : (s : List ℕ) (ns : Numbers) → gr_line s ≡ Problem ns → s ≡ line_text gr_problem (decimal ns.first ∷ decimal ns.second ∷ [])
+pub gr_read : (s : List ℕ) (ns : Numbers) → gr_line s ≡ Ok (Problem ns) → s ≡ line_text gr_problem (decimal ns.first ∷ decimal ns.second ∷ [])
 unfolding gr_line joined
 gr_read s ns e =
     let m = gr_matched (fields_of s) ns (line_problem gr_problem gr_arc s ns e) in
     sym (joined_fields s) ∙ (ap joined m ∙ sym (gr_spelt (decimal ns.first) (decimal ns.second)))
 
-pub co_read : (s : List ℕ) (ns : Numbers) → co_line s ≡ Problem ns → s ≡ line_text co_problem (decimal ns.first ∷ [])
+pub co_read : (s : List ℕ) (ns : Numbers) → co_line s ≡ Ok (Problem ns) → s ≡ line_text co_problem (decimal ns.first ∷ [])
 unfolding co_line joined
 co_read s ns e =
     let m = co_matched (fields_of s) ns (line_problem co_problem co_node s ns e) in
     sym (joined_fields s) ∙ (ap joined m ∙ sym (co_spelt (decimal ns.first)))
 
-pub node_read : (s : List ℕ) (ns : Numbers) → co_line s ≡ Data ns → s ≡ line_text co_node (decimal ns.first ∷ whole ns.x ∷ whole ns.y ∷ [])
+pub node_read : (s : List ℕ) (ns : Numbers) → co_line s ≡ Ok (Data ns) → s ≡ line_text co_node (decimal ns.first ∷ whole ns.x ∷ whole ns.y ∷ [])
 unfolding co_line joined
 node_read s ns e =
     let m = node_matched (fields_of s) ns (line_data co_problem co_node s ns e) in

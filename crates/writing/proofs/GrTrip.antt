@@ -1,4 +1,7 @@
 -- Reading what was written gives the same network; writing what was read gives the same text exactly when it was plain.
+use Rattle.std.specs.Prelude.{Result, Ok}
+use Rattle.rules.specs.declared.Refusal.{Refusal}
+use Rattle.rules.specs.declared.Sizes.{Sizes}
 use mathlib.Core.Path.{◌≡◌, refl, sym, ap, subst, ◌∙◌}
 use mathlib.Core.List.{List, [], ◌∷◌, ◌++◌, map}
 use mathlib.Core.Bool.{true, false}
@@ -12,7 +15,6 @@ use Rattle.scan.specs.Fields.{none}
 use Rattle.scan.specs.Decimal.{decimal}
 use Rattle.scan.specs.Written.{spread, line_text, closed, listed}
 use Rattle.scan.specs.declared.holding.Numbers.{Numbers}
-use Rattle.scan.specs.declared.line.Line.TheVariants.{Data}
 use Rattle.dimacs.specs.Rules.{column_of, naturals, within}
 use Rattle.dimacs.specs.Gr.{gr_problem, gr_arc, gr_line, gr_rules}
 use Rattle.dimacs.specs.Texts.{Outcome, read, refused, start, read_lines, read_text}
@@ -20,8 +22,6 @@ use Rattle.dimacs.specs.Rows.{row}
 use Rattle.dimacs.specs.Reading.{read_gr, gr_says}
 use Rattle.dimacs.specs.Promise.{GrPromise}
 use Rattle.dimacs.specs.Accepted.{GrLimits}
-use Rattle.dimacs.specs.declared.GrReply.{GrReply}
-use Rattle.dimacs.specs.declared.GrReply.TheVariants.{Read as GrRead}
 use Rattle.dimacs.specs.declared.format.Format.TheVariants.{Graph}
 use Rattle.dimacs.specs.declared.rows.Column.TheVariants.{First, Second, Third}
 use Rattle.dimacs.proofs.Sound.{Entry}
@@ -36,6 +36,7 @@ use Rattle.writing.specs.Plain.{PlainGr}
 use Rattle.scan.proofs.WrittenLaws.{Without, without_both, Clear, empty, more, lines_closed, without_spread, closed_lines, last_closed, listed_long, listed_at, listed-map, map-listed}
 use Rattle.scan.proofs.FormLaws.{word_1, uncommented}
 use Rattle.writing.proofs.FormLaws.{arc_clear, gr_clear, arc_spelt, gr_spelt, arc_written, gr_written, arc_read, gr_read}
+use Rattle.writing.proofs.TextLaws.{data_of}
 use Rattle.writing.proofs.BeginLaws.{open_line, read_all, begun, in_order, lines_of_lem}
 use Rattle.writing.proofs.LengthLaws.{gr_most}
 
@@ -97,8 +98,8 @@ module _ (n m : ℕ) (tails heads weights : List ℕ) (g : GrLimits n m tails he
   unfolding read_text gr_rules
   gr_text_read =
       let first = line_text gr_problem (decimal n ∷ decimal m ∷ []) in
-      let same = map-listed gr_line (arc_text R) (λ (e : ℕ). Data (arc_numbers R e)) (λ e. arc_written (at tails e) (at heads e) (at weights e)) m in
-      let also = map-listed Data (arc_numbers R) (λ (e : ℕ). Data (arc_numbers R e)) (λ e. refl) m in
+      let same = map-listed gr_line (arc_text R) (λ (e : ℕ). data_of (arc_numbers R e)) (λ e. arc_written (at tails e) (at heads e) (at weights e)) m in
+      let also = map-listed data_of (arc_numbers R) (λ (e : ℕ). data_of (arc_numbers R e)) (λ e. refl) m in
       ap (λ (ls : List (List ℕ)). read_lines Graph ls 1 start) (gr_lines n m R)
       ∙ (open_line Graph (naturals n m 0) first (listed (arc_text R) m) (gr_written n m) (problem_within n m g.some_node g.nodes g.arcs) (omega arith) g.arcs
       ∙ read_all Graph (naturals n m 0) (listed (arc_text R) m) (listed (arc_numbers R) m) (same ∙ sym also) (listed_long (arc_numbers R) m) g.arcs
@@ -121,8 +122,8 @@ module _ (n m : ℕ) (tails heads weights : List ℕ) (g : GrLimits n m tails he
       ∙ (ap f (listed_at (arc_numbers (open_rows tails heads weights)) m i none h) ∙ e)
 
   -- whoever reads the text that was written gets n, m and the same arcs, whatever rows are lent
-  pub read_written_gr : (r : GrReply) (a' b' c' d' : List ℕ) → GrPromise (gr_text n m (open_rows tails heads weights)) a b c d r a' b' c' d'
-      → (r ≡ GrRead n m) × ((i : ℕ) → i < m → (get_or a' i 0 ≡ get_or tails i 0) × (get_or b' i 0 ≡ get_or heads i 0) × (get_or c' i 0 ≡ get_or weights i 0))
+  pub read_written_gr : (r : Result Sizes Refusal) (a' b' c' d' : List ℕ) → GrPromise (gr_text n m (open_rows tails heads weights)) a b c d r a' b' c' d'
+      → (r ≡ (Ok (record { n = n; m = m }))) × ((i : ℕ) → i < m → (get_or a' i 0 ≡ get_or tails i 0) × (get_or b' i 0 ≡ get_or heads i 0) × (get_or c' i 0 ≡ get_or weights i 0))
   unfolding gr_says row
   read_written_gr r a' b' c' d' p =
       let reply = p.reply ∙ ap gr_says gr_back in
@@ -130,7 +131,7 @@ module _ (n m : ℕ) (tails heads weights : List ℕ) (g : GrLimits n m tails he
       let tb = p.heads_left ∙ ap (λ (o : Outcome). row (column_of Second) o b) gr_back in
       let tc = p.weights_left ∙ ap (λ (o : Outcome). row (column_of Third) o c) gr_back in
       let one : (i : ℕ) → i + 1 - 1 ≡ i = λ i. omega arith in (
-        gr_reply_injective r (GrRead n m) reply,
+        gr_reply_injective r (Ok (record { n = n; m = m })) reply,
         λ i h. (
           rw ta (back_at (column_of First) a tails i h (ap (λ (k : ℕ). get_or tails k 0) (one i))),
           rw tb (back_at (column_of Second) b heads i h (ap (λ (k : ℕ). get_or heads k 0) (one i))),
@@ -188,7 +189,7 @@ gr_rows p lines a b c n =
     rw (one, front (column_of First) lines a i 0 h, front (column_of Second) lines b i 0 h, front (column_of Third) lines c i 0 h)))
 
 -- what was read is written as it was, exactly where it was plain
-pub write_read_gr : (text a b c d : List ℕ) (n m : ℕ) (a' b' c' d' : List ℕ) → GrPromise text a b c d (GrRead n m) a' b' c' d'
+pub write_read_gr : (text a b c d : List ℕ) (n m : ℕ) (a' b' c' d' : List ℕ) → GrPromise text a b c d (Ok (record { n = n; m = m })) a' b' c' d'
     → (gr_text n m (open_rows a' b' c') ≡ text → PlainGr text) × (PlainGr text → gr_text n m (open_rows a' b' c') ≡ text)
 unfolding gr_says row gr_text
 write_read_gr text a b c d n m a' b' c' d' q =

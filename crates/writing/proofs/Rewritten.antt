@@ -1,4 +1,5 @@
 -- Rows that a reader left are not refused by a writer: 5, 2 for the number rows, 8 and 9 cannot follow a reading.
+use Rattle.std.specs.Prelude.{Ok}
 use Prim.Native.Nat.{ℕ, ◌+◌, ◌-◌, ◌<◌, ◌≤◌}
 use mathlib.Core.Path.{◌≡◌, refl, sym, ap}
 use mathlib.Core.Bool.{Bool, true, false}
@@ -12,20 +13,16 @@ use borrow.Author.Tests.{le-leb}
 use Rattle.rules.specs.Limits.{least_coordinate, most_coordinate}
 use Rattle.rules.specs.Paper.{Reply, accepted}
 use Rattle.rules.proofs.JudgingLaws.{each_fine}
-use Rattle.rules.specs.declared.Judged.TheVariants.{Fine}
 use Rattle.rules.specs.declared.Refusal.TheVariants.{BadArc, BadCoordinate}
 use Rattle.scan.specs.Fields.{none}
 use Rattle.scan.specs.declared.holding.Numbers.{Numbers}
-use Rattle.dimacs.specs.Rules.{column_of, axis_of}
+use Rattle.dimacs.specs.Rules.{column_of}
 use Rattle.dimacs.specs.Texts.{Outcome, read, refused, read_text}
 use Rattle.dimacs.specs.declared.format.Format.TheVariants.{Graph, Coordinates}
 use Rattle.dimacs.specs.Rows.{row}
 use Rattle.dimacs.specs.Reading.{read_gr, gr_says, read_co, co_says}
 use Rattle.dimacs.specs.Promise.{GrPromise, CoPromise}
-use Rattle.dimacs.specs.declared.GrReply.TheVariants.{Read as GrRead}
-use Rattle.dimacs.specs.declared.CoReply.TheVariants.{Read as CoRead}
 use Rattle.dimacs.specs.declared.rows.Column.TheVariants.{First, Second, Third}
-use Rattle.dimacs.specs.declared.rows.Axis.TheVariants.{X, Y}
 use Rattle.dimacs.proofs.Accepted.{gr_count, gr_read, co_read, co_nodes, not_accepted, read_gr_limits, read_co_limits}
 use Rattle.walks.specs.Rows.{open_rows, at}
 use Rattle.judging.specs.Order.{good_arc, good_place, arcs_judged}
@@ -39,7 +36,7 @@ map_long f (l ∷ lines) = let e = map_long f lines in omega arith
 filled_long : {A : Type 0} (f : Numbers → A) (lines : List Numbers) (old : List A) → length lines ≤ length (map f lines ++ old)
 filled_long f lines old = let a = length-append (map f lines) old in let b = map_long f lines in omega arith
 
-module _ (text a b c d : List ℕ) (n m : ℕ) (a' b' c' d' : List ℕ) (p : GrPromise text a b c d (GrRead n m) a' b' c' d') where
+module _ (text a b c d : List ℕ) (n m : ℕ) (a' b' c' d' : List ℕ) (p : GrPromise text a b c d (Ok (record { n = n; m = m })) a' b' c' d') where
   long : (m ≤ length a') × (m ≤ length b') × (m ≤ length c')
   unfolding gr_says row
   long = by_outcome (read_gr text a b c d) (gr_read text a b c d) p.reply p.tails_left p.heads_left p.weights_left
@@ -55,7 +52,7 @@ module _ (text a b c d : List ℕ) (n m : ℕ) (a' b' c' d' : List ℕ) (p : GrP
           (rw ta (omega arith), rw tb (omega arith), rw tc (omega arith))
       by_outcome (refused r) from e ta tb tc = absurd (not_accepted r (n ∷ m ∷ []) (sym e))
 
-  pub network-again : arcs_judged n m (open_rows a' b' c') true ≡ Fine
+  pub network-again : arcs_judged n m (open_rows a' b' c') true ≡ Ok tt
   unfolding arcs_judged
   network-again =
       let g = read_gr_limits text a b c d n m a' b' c' d' p in
@@ -74,23 +71,23 @@ is_true : (z : Bool) → T z → z ≡ true
 is_true true t = refl
 is_true false t = absurd t
 
-module _ (text : List ℕ) (n : ℕ) (a b a' b' : List ℤ) (p : CoPromise text n a b CoRead a' b') where
+module _ (text : List ℕ) (n : ℕ) (a b a' b' : List ℤ) (p : CoPromise text n a b (Ok tt) a' b') where
   placed : (1 ≤ n) × (n ≤ 512) × (n ≤ length a') × (n ≤ length b')
   unfolding co_says row
   placed = by_outcome (read_co text n a b) (co_read text n a b) (co_nodes text n a b) p.reply p.x_left p.y_left
     where
       by_outcome : (o : Outcome) → ((q : Numbers) (lines : List Numbers) → o ≡ read q lines → (1 ≤ n) × (n ≤ 512) × (read_text (Coordinates n) text ≡ read q lines))
           → ((q : Numbers) (lines : List Numbers) → o ≡ read q lines → (length lines ≡ n) × ((i : ℕ) → i < n → (get_or lines i none).first ≡ i + 1)) → accepted [] ≡ co_says o
-          → a' ≡ row (axis_of X) o a → b' ≡ row (axis_of Y) o b → (1 ≤ n) × (n ≤ 512) × (n ≤ length a') × (n ≤ length b')
+          → a' ≡ row (λ (ns : Numbers). ns.x) o a → b' ≡ row (λ (ns : Numbers). ns.y) o b → (1 ≤ n) × (n ≤ 512) × (n ≤ length a') × (n ≤ length b')
       by_outcome (read q lines) given nodes d ta tb =
           let all : length lines ≡ n = (nodes q lines refl).0 in
           let g = given q lines refl in
-          let first = filled_long (axis_of X) lines (drop (length lines) a) in
-          let second = filled_long (axis_of Y) lines (drop (length lines) b) in
+          let first = filled_long (λ (ns : Numbers). ns.x) lines (drop (length lines) a) in
+          let second = filled_long (λ (ns : Numbers). ns.y) lines (drop (length lines) b) in
           (g.0, g.1, rw ta (omega arith), rw tb (omega arith))
       by_outcome (refused r) given nodes d ta tb = absurd (not_accepted r [] (sym d))
 
-  pub places_again : places_judged n a' b' ≡ Fine
+  pub places_again : places_judged n a' b' ≡ Ok tt
   unfolding places_judged
   places_again =
       let g = read_co_limits text n a b a' b' p in

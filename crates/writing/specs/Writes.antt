@@ -1,16 +1,13 @@
 -- What the writers promise: the paper's reply, and the contents of the text row as it is left.
-use Rattle.std.specs.Prelude.{ℕ, ◌≡◌, true, ◌&&◌, List, [], ◌∷◌, ◌++◌, leb, ℤ, length, drop}
+use Rattle.std.specs.Prelude.{ℕ, ◌≡◌, true, ◌&&◌, List, [], ◌∷◌, ◌++◌, leb, ℤ, length, drop, Result, Ok, Err}
 use Rattle.rules.specs.Limits.{most_nodes}
-use Rattle.rules.specs.Judging.{in_turn, passes}
+use Rattle.rules.specs.Judging.{Judged, in_turn, passes}
 use Rattle.rules.specs.Paper.{Reply, refusal, accepted}
-use Rattle.rules.specs.declared.Judged.{Judged}
-use Rattle.rules.specs.declared.Judged.TheVariants.{Fine, Refused}
+use Rattle.rules.specs.declared.Refusal.{Refusal}
 use Rattle.rules.specs.declared.Refusal.TheVariants.{BeyondLimits}
 use Rattle.walks.specs.Rows.{Rows}
 use Rattle.judging.specs.Order.{lengths, coordinates, arcs_judged}
 use Rattle.writing.specs.Text.{gr_text, co_text}
-use Rattle.writing.specs.declared.WriteReply.{WriteReply}
-use Rattle.writing.specs.declared.WriteReply.TheVariants.{Written, Refused as NotWritten}
 
 -- The refusals in order; the text row has `room` places.
 
@@ -28,28 +25,28 @@ unfoldable pub co_write_judged : ℕ → List ℤ → List ℤ → ℕ → Judge
 co_write_judged n x y room = in_turn (places_judged n x y ∷ lengths (leb (length (co_text n x y)) room) ∷ [])
 
 -- the paper's reply of an answer: the text's length, or the refusal
-abbrev pub write_reply : WriteReply → Reply
-write_reply (Written length) = accepted (length ∷ [])
-write_reply (NotWritten r) = refusal r
+abbrev pub write_reply : Result ℕ Refusal → Reply
+write_reply (Ok length) = accepted (length ∷ [])
+write_reply (Err r) = refusal r
 
 abbrev pub write_says : Judged → ℕ → Reply
-write_says Fine length = accepted (length ∷ [])
-write_says (Refused r) length = refusal r
+write_says (Ok _) length = accepted (length ∷ [])
+write_says (Err r) length = refusal r
 
 -- the text, then what stood behind it; a refused call leaves the row alone
 abbrev pub write_leaves : Judged → List ℕ → List ℕ → List ℕ
-write_leaves Fine text row = text ++ drop (length text) row
-write_leaves (Refused r) text row = row
+write_leaves (Ok _) text row = text ++ drop (length text) row
+write_leaves (Err r) text row = row
 
 -- a writer judged so, replied r for this text, and left the text row as row'
-pub record Writes (judged : Judged) (text row : List ℕ) (r : WriteReply) (row' : List ℕ) : Type 0 where
+pub record Writes (judged : Judged) (text row : List ℕ) (r : Result ℕ Refusal) (row' : List ℕ) : Type 0 where
   pub reply : write_reply r ≡ write_says judged (length text)
   pub left : row' ≡ write_leaves judged text row
 
 -- `write_gr` replied r and left the text row as row'
-abbrev pub GrWrites : ℕ → ℕ → Rows → List ℕ → WriteReply → List ℕ → Type 0
+abbrev pub GrWrites : ℕ → ℕ → Rows → List ℕ → Result ℕ Refusal → List ℕ → Type 0
 GrWrites n m R row r row' = Writes (gr_write_judged n m R (length row)) (gr_text n m R) row r row'
 
 -- `write_co` replied r and left the text row as row'
-abbrev pub CoWrites : ℕ → List ℤ → List ℤ → List ℕ → WriteReply → List ℕ → Type 0
+abbrev pub CoWrites : ℕ → List ℤ → List ℤ → List ℕ → Result ℕ Refusal → List ℕ → Type 0
 CoWrites n x y row r row' = Writes (co_write_judged n x y (length row)) (co_text n x y) row r row'

@@ -12,30 +12,21 @@ ghost use Rattle.writing.specs.Writes.{places_judged, Writes, GrWrites, CoWrites
 use judging::network::judge_arc_rows;
 use judging::places::judge_places;
 use judging::sizes::{judge_lengths, unless};
-use lines::ROOM;
-use pages::put;
-use rules::{Judged, Refusal};
-use texts::{put_network, put_places};
-
-// A text is written, with its length, or the call refused.
-#[derive(Drop)]
-pub enum WriteReply {
-    Written(usize),
-    Refused(Refusal),
-}
+use rules::Refusal;
+use texts::{co_page, gr_page};
+use walks::Network;
 
 // Bytes go to the front of a row, if they fit.
-fn hand_over(bytes: &[u8], row: &mut [u8]) -> WriteReply
+fn hand_over(bytes: &[u8], row: &mut [u8]) -> Result<usize, Refusal>
     ensures { Writes (lengths (leb (length bytes.now) (length row.old)))
         bytes.now row.old result row.new }
 {
-    if row.len() < bytes.len() {
-        return WriteReply::Refused(Refusal::RowTooShort);
-    }
-    WriteReply::Written(put(row, 0, bytes))
+    judge_lengths(bytes.len() <= row.len())?;
+    row[..bytes.len()].copy_from_slice(bytes);
+    Ok(bytes.len())
 }
 
-// Writes a network as a graph file into a row.
+// Writes a network as a graph file into a row, and answers the text's length.
 pub fn write_gr(
     n: u32,
     m: u32,
@@ -43,47 +34,40 @@ pub fn write_gr(
     heads: &[u32],
     weights: &[u32],
     text: &mut [u8],
-) -> WriteReply
+) -> Result<usize, Refusal>
     ensures { GrWrites n m (open_rows tails.now heads.now weights.now)
         text.old result text.new }
 {
-    let judged = judge_arc_rows(n, m, tails, heads, weights, true);
-    let Judged::Refused(refusal) = judged else {
-        let mut page = [0u8; ROOM];
-        let end = put_network(&mut page, n, m, tails, heads, weights);
-        return hand_over(&page[..end], text);
+    let net = Network {
+        n,
+        m,
+        tails,
+        heads,
+        weights,
+        closures: &[],
     };
-    WriteReply::Refused(refusal)
+    judge_arc_rows(net, true)?;
+    hand_over(gr_page(net).text(), text)
 }
 
 // Coordinates without a network: 5 for n, 2, 9.
-fn judge_coordinates(n: u32, x: &[i32], y: &[i32]) -> Judged
+#[tactic(auto, unfolding(crate::specs::Writes::places_judged))]
+fn judge_coordinates(n: u32, x: &[i32], y: &[i32]) -> Result<(), Refusal>
     ensures { result ≡ places_judged n x.now y.now }
 {
-    let a = unless(
+    unless(
         (1 <= n) & (n <= rules::NODES),
         Refusal::BeyondLimits { line: 0 },
-    );
-    let Judged::Fine = a else {
-        return a;
-    };
+    )?;
     let places = n as usize;
-    let b = judge_lengths((places <= x.len()) & (places <= y.len()));
-    let Judged::Fine = b else {
-        return b;
-    };
-    judge_places(true, places, x, y)
+    judge_lengths((places <= x.len()) & (places <= y.len()))?;
+    judge_places(n, x, y)
 }
 
-// Writes coordinates as a coordinate file into a row.
-pub fn write_co(n: u32, x: &[i32], y: &[i32], text: &mut [u8]) -> WriteReply
+// Writes coordinates as a coordinate file into a row, and answers the text's length.
+pub fn write_co(n: u32, x: &[i32], y: &[i32], text: &mut [u8]) -> Result<usize, Refusal>
     ensures { CoWrites n x.now y.now text.old result text.new }
 {
-    let judged = judge_coordinates(n, x, y);
-    let Judged::Refused(refusal) = judged else {
-        let mut page = [0u8; ROOM];
-        let end = put_places(&mut page, n, x, y);
-        return hand_over(&page[..end], text);
-    };
-    WriteReply::Refused(refusal)
+    judge_coordinates(n, x, y)?;
+    hand_over(co_page(n, x, y).text(), text)
 }

@@ -1,49 +1,36 @@
-// The texts, put together on a page.
-ghost use Rattle.std.specs.Prelude.{◌≤◌, length};
-ghost use Rattle.walks.specs.Rows.{open_rows};
+// The texts, each put together on a page.
+ghost use Rattle.std.specs.Prelude.{◌≡◌, ◌≤◌, length};
+ghost use Rattle.walks.specs.Lent.{rows_of};
 ghost use Rattle.writing.specs.Text.{gr_text, co_text};
-ghost use Rattle.pages.specs.Page.{Puts};
 
 use crate::lines::{ROOM, put_arc_line, put_graph_line, put_node_line, put_places_line};
+use pages::Page;
+use walks::Network;
 
-// Puts the text of a network on a page.
-pub fn put_network(
-    page: &mut [u8; ROOM],
-    n: u32,
-    m: u32,
-    tails: &[u32],
-    heads: &[u32],
-    weights: &[u32],
-) -> usize
-    requires m_in_bounds { (m ≤ length tails.now) × (m ≤ length heads.now) × (m ≤ length weights.now) }
-    requires text_fits { length (gr_text n m (open_rows tails.now heads.now weights.now)) ≤ 36878 }
-    ensures { Puts (gr_text n m (open_rows tails.now heads.now weights.now)) 0
-        page.old result page.new }
+// The text of a network.
+pub fn gr_page(net: Network) -> Page<ROOM>
+    requires m_in_bounds { (net.m ≤ length net.tails.now) × (net.m ≤ length net.heads.now) × (net.m ≤ length net.weights.now) }
+    requires text_fits { length (gr_text net.n net.m (rows_of net)) ≤ 36878 }
+    ensures { result ≡ gr_text net.entry.n net.entry.m (rows_of net.entry) }
 {
-    let mut at = put_graph_line(page, 0, n, m);
-    let places = m as usize;
-    let mut i = 0;
-    while i < places {
-        at = put_arc_line(page, at, tails[i], heads[i], weights[i]);
-        i += 1;
+    let mut page = Page::new();
+    put_graph_line(&mut page, net.n, net.m);
+    for i in 0..net.m as usize {
+        put_arc_line(&mut page, net.tails[i], net.heads[i], net.weights[i]);
     }
-    at
+    page
 }
 
-// Puts the text of the coordinates on a page.
-pub fn put_places(page: &mut [u8; ROOM], n: u32, x: &[i32], y: &[i32]) -> usize
+// The text of the coordinates.
+pub fn co_page(n: u32, x: &[i32], y: &[i32]) -> Page<ROOM>
     requires n_in_bounds { (n ≤ length x.now) × (n ≤ length y.now) }
     requires text_fits { length (co_text n x.now y.now) ≤ 36878 }
-    ensures { Puts (co_text n x.now y.now) 0 page.old result page.new }
+    ensures { result ≡ co_text n x.now y.now }
 {
-    let mut at = put_places_line(page, 0, n);
-    let mut i: u32 = 0;
-    while i < n {
-        let k = i as usize;
-        let a = x[k];
-        let b = y[k];
-        at = put_node_line(page, at, i + 1, a, b);
-        i += 1;
+    let mut page = Page::new();
+    put_places_line(&mut page, n);
+    for i in 0..n {
+        put_node_line(&mut page, i + 1, x[i as usize], y[i as usize]);
     }
-    at
+    page
 }

@@ -1,25 +1,35 @@
 -- `boxes::list` meets its contract.
-use mathlib.Core.List.{◌++◌}
+use mathlib.Core.Path.{ap}
+use native.Mathlib.Omega.{arith}
 use Rattle.scan.specs.Ascii.{bytes}
-use Rattle.listing.specs.Listing.{listing}
-use Rattle.loading.specs.Loading.{trouble_text}
+use Rattle.walks.specs.Rows.{Rows}
 use Rattle.boxes.specs.Prints.{graph, places, listed}
 use Rattle.boxes.proofs.list.Goals as goal
 
-pub returns-in-Built-clause-printed : goal.returns-in-Built-clause-printed
-returns-in-Built-clause-printed c =
-    let rows = c.load-loaded.new in
-    let built = rw c.in-Built.is at c.load-loaded.ensures.loads in
-    record { text = listing rows.tails rows.heads rows.weights rows.boxes c.in-Built.m; says = listed built; puts = c.put_listing.ensures.puts }
+pub put_listing-requires : goal.put_listing-requires
+put_listing-requires c =
+    let small = c.in-Ok.ensures.small in
+    let long = c.network.ensures.long in
+    let m = c.network.ensures.sizes.1 in
+    (omega arith, omega arith, omega arith, omega arith, omega arith)
 
-pub returns-in-Graph-clause-printed : goal.returns-in-Graph-clause-printed
-unfolding bytes
-returns-in-Graph-clause-printed c =
-    let trouble = rw c.in-Graph.is at c.load-loaded.ensures.loads in
-    record { text = trouble_text c.in-Graph.trouble ++ bytes "\n"; says = graph trouble; puts = c.put_trouble.ensures.puts }
+pub returns-in-Ok : goal.returns-in-Ok
+returns-in-Ok c =
+    let m = c.network.ensures.sizes.1 in
+    let tails = ap (λ (R : Rows). R.tails) c.network.ensures.rows in
+    let heads = ap (λ (R : Rows). R.heads) c.network.ensures.rows in
+    let weights = ap (λ (R : Rows). R.weights) c.network.ensures.rows in
+    let loads = rw c.blank-plan.ensures at c.in-Ok.ensures.loads in
+    rw (c.put_listing.ensures, tails, heads, weights, m) (listed loads)
 
-pub returns-in-Places-clause-printed : goal.returns-in-Places-clause-printed
+pub returns-in-Graph : goal.returns-in-Graph
 unfolding bytes
-returns-in-Places-clause-printed c =
-    let trouble = rw c.in-Places.is at c.load-loaded.ensures.loads in
-    record { text = trouble_text c.in-Places.trouble ++ bytes "\n"; says = places trouble; puts = c.put_trouble-in-Places.ensures.puts }
+returns-in-Graph c =
+    let loads = rw (c.blank-plan.ensures, c.in-Graph.is) at c.in-Err.ensures.loads in
+    rw c.put_trouble.ensures (graph loads)
+
+pub returns-in-Places : goal.returns-in-Places
+unfolding bytes
+returns-in-Places c =
+    let loads = rw (c.blank-plan.ensures, c.in-Places.is) at c.in-Err.ensures.loads in
+    rw c.put_trouble-in-Places.ensures (places loads)

@@ -1,17 +1,11 @@
 -- `days::run_day` meets its contract.
-use mathlib.Core.Path.{ap}
-use Rattle.wording.specs.Refusals.{no_file_line}
-use Rattle.files.specs.File.{held_in}
-use Rattle.replies.specs.Replies.{day_line}
+use Rattle.std.proofs.Common.{ap}
+use Rattle.files.specs.File.{held_of}
 use Rattle.calls.specs.Texts.{RunsDay}
 use Rattle.days.proofs.run_day.Goals as goal
 
-pub returns-in_default-clause-fact : goal.returns-in_default-clause-fact
-returns-in_default-clause-fact c =
-    let e = ap (held_in c.args.text.now) c.in_default.is in
-    record { text = no_file_line; says = RunsDay.no_file e; puts = c.put_no_file.ensures.puts }
+pub returns-in_default-clause-runs : goal.returns-in_default-clause-runs
+returns-in_default-clause-runs c = rw c.put_no_file.ensures.text (RunsDay.no_file (ap held_of c.in_default.is))
 
-pub returns-clause-fact : goal.returns-clause-fact
-returns-clause-fact c =
-    let e = ap (held_in c.args.text.now) c.in-Bytes.is in
-    record { text = day_line _; says = RunsDay.file _ e c.answer_all-day.ensures; puts = c.put_day.ensures.puts }
+pub returns-clause-runs : goal.returns-clause-runs
+returns-clause-runs c = rw c.put_day.ensures.text (RunsDay.file c.answer_all-day.result (ap held_of c.in-Some.is) c.answer_all-day.ensures)

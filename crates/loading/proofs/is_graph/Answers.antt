@@ -1,9 +1,7 @@
 -- `loading::is_graph` meets its contract.
-use Rattle.loading.proofs.LoadingLaws.{is_graph_lem, is_none}
+use mathlib.Core.Path.{◌∙◌}
+use Rattle.loading.proofs.LoadingLaws.{graph_told}
 use Rattle.loading.proofs.is_graph.Goals as goal
 
-pub returns-in_default-reply : goal.returns-in_default-reply
-returns-in_default-reply c = is_none _ c.in-Bytes.is (rw c.in_default-reply.is at c.read_gr-reply.ensures)
-
 pub returns : goal.returns
-returns c = is_graph_lem _ c.in-Bytes.is (rw c.in-Read.is at c.read_gr-reply.ensures)
+returns c = c.is_ok.ensures.value ∙ graph_told (rw c.blank.ensures at c.read_graph.ensures.reads)

@@ -1,27 +1,14 @@
 -- `calls::texts::read_graph` meets its contract.
-use mathlib.Core.Path.{ap}
-use Rattle.wording.specs.Refusals.{no_file_line, refusal_line}
-use Rattle.files.specs.File.{held_in}
-use Rattle.dimacs.specs.declared.GrReply.TheVariants as graph
-use Rattle.replies.specs.Replies.{sizes_line}
-use Rattle.calls.specs.Texts.{graph_line, graph_sizes, ReadsGraph}
+use Rattle.std.proofs.Common.{ap, Ok, Err}
+use Rattle.files.specs.File.{held_of}
+use Rattle.calls.specs.Texts.{ReadsGraph}
 use Rattle.calls.proofs.texts.read_graph.Goals as goal
 
-pub returns-in_default-clause-fact : goal.returns-in_default-clause-fact
-returns-in_default-clause-fact c =
-    let e = ap (held_in c.args.text.now) c.in_default.is in
-    record { text = no_file_line; says = ReadsGraph.no_file e; puts = c.put_no_file.ensures.puts }
+pub returns-in_default-clause-reads : goal.returns-in_default-clause-reads
+returns-in_default-clause-reads c = rw c.put_no_file.ensures.text (ReadsGraph.no_file (ap held_of c.in_default.is))
 
-pub returns-in-Read-clause-fact : goal.returns-in-Read-clause-fact
-unfolding graph_line graph_sizes
-returns-in-Read-clause-fact c =
-    let e = ap (held_in c.args.text.now) c.in-Bytes.is in
-    let read = rw c.in-Read.is at c.read_gr-reply.ensures in
-    record { text = sizes_line _ _; says = ReadsGraph.file (graph.Read _ _) e read; puts = c.put_sizes.ensures.puts }
+pub returns-in-Ok-clause-reads : goal.returns-in-Ok-clause-reads
+returns-in-Ok-clause-reads c = rw c.put_sizes.ensures.text (ReadsGraph.file (Ok c.in-Ok.read) (ap held_of c.in-Some.is) c.in-Ok.ensures)
 
-pub returns-in-Refused-clause-fact : goal.returns-in-Refused-clause-fact
-unfolding graph_line graph_sizes
-returns-in-Refused-clause-fact c =
-    let e = ap (held_in c.args.text.now) c.in-Bytes.is in
-    let read = rw c.in-Refused.is at c.read_gr-reply.ensures in
-    record { text = refusal_line _; says = ReadsGraph.file (graph.Refused _) e read; puts = c.put_refusal.ensures.puts }
+pub returns-in-Err-clause-reads : goal.returns-in-Err-clause-reads
+returns-in-Err-clause-reads c = rw c.put_refusal.ensures.text (ReadsGraph.file (Err c.in-Err.why) (ap held_of c.in-Some.is) c.in-Err.ensures)

@@ -1,27 +1,11 @@
 -- `calls::texts::read_places` meets its contract.
-use mathlib.Core.Path.{ap}
-use Rattle.wording.specs.Refusals.{no_file_line, refusal_line}
-use Rattle.files.specs.File.{held_in}
-use Rattle.dimacs.specs.declared.CoReply.TheVariants as places
-use Rattle.replies.specs.Replies.{ok_line}
-use Rattle.calls.specs.Texts.{places_line, ReadsPlaces}
+use Rattle.std.proofs.Common.{ap}
+use Rattle.files.specs.File.{held_of}
+use Rattle.calls.specs.Texts.{ReadsPlaces}
 use Rattle.calls.proofs.texts.read_places.Goals as goal
 
-pub returns-in_default-clause-fact : goal.returns-in_default-clause-fact
-returns-in_default-clause-fact c =
-    let e = ap (held_in c.args.text.now) c.in_default.is in
-    record { text = no_file_line; says = ReadsPlaces.no_file e; puts = c.put_no_file.ensures.puts }
+pub returns-in_default-clause-reads : goal.returns-in_default-clause-reads
+returns-in_default-clause-reads c = rw c.put_no_file.ensures.text (ReadsPlaces.no_file (ap held_of c.in_default.is))
 
-pub returns-in_default-reply-clause-fact : goal.returns-in_default-reply-clause-fact
-unfolding places_line
-returns-in_default-reply-clause-fact c =
-    let e = ap (held_in c.args.text.now) c.in-Bytes.is in
-    let read = rw c.in_default-reply.is at c.read_co-reply.ensures in
-    record { text = ok_line; says = ReadsPlaces.file places.Read e read; puts = c.put_ok.ensures.puts }
-
-pub returns-clause-fact : goal.returns-clause-fact
-unfolding places_line
-returns-clause-fact c =
-    let e = ap (held_in c.args.text.now) c.in-Bytes.is in
-    let read = rw c.in-Refused.is at c.read_co-reply.ensures in
-    record { text = refusal_line _; says = ReadsPlaces.file (places.Refused _) e read; puts = c.put_refusal.ensures.puts }
+pub returns-clause-reads : goal.returns-clause-reads
+returns-clause-reads c = rw c.put_judged.ensures.text (ReadsPlaces.file c.read_co-read.result (ap held_of c.in-Some.is) c.read_co-read.ensures)

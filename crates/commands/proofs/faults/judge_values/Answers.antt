@@ -1,20 +1,23 @@
 -- `commands::faults::judge_values` meets its contract.
-use mathlib.Core.Path.{sym, ◌∙◌}
-use native.Mathlib.Omega.{arith}
-use Rattle.scan.proofs.PieceLaws.{rest_long}
-use Rattle.commands.proofs.FaultLaws.{values_turn, values_end, on_good_lem, on_bad}
+use Rattle.std.proofs.Common.{rules, ◌≡◌, ◌∷◌, [], List, ℕ, Ok}
+use Rattle.commands.specs.Commands.{Judged, value_judged, values_judged, on_ok}
+use Rattle.commands.specs.declared.rows.Kind.{Kind}
 use Rattle.commands.proofs.faults.judge_values.Goals as goal
 
-pub returns-in_default : goal.returns-in_default
-returns-in_default c =
-    let turn = values_turn c.args.kind c.args.words.now _ _ c.loop-at.at _ _ c.rest-left.ensures c.first_at-e.ensures.0 c.loop-at-test.true c.front.ensures c.judge_value-judged.ensures in
-    sym (c.loop-at.invariant.1 ∙ turn ∙ on_bad _ _ _ c.in_default.is)
+-- r is what was judged of the first of the words
+first_judged : (kind : Kind) (ws more : List (List ℕ)) (w : List ℕ) (r : Judged) → ws ≡ w ∷ more → r ≡ value_judged kind w → values_judged kind ws ≡ on_ok r (λ _. values_judged kind more)
+unfolding values_judged
+first_judged kind ws more w r p q = rw (p, q)
 
-pub loop-at-preserved : goal.loop-at-preserved
-loop-at-preserved c =
-    let long = rest_long c.args.words.now _ c.loop-at.at c.rest-left.ensures in
-    let turn = values_turn c.args.kind c.args.words.now _ _ c.loop-at.at _ _ c.rest-left.ensures c.first_at-e.ensures.0 c.loop-at-test.true c.front.ensures c.judge_value-judged.ensures in
-    (omega arith, c.loop-at.invariant.1 ∙ turn ∙ on_good_lem _ _ c.in-Good.is)
+none_judged : (kind : Kind) (ws : List (List ℕ)) → ws ≡ [] → values_judged kind ws ≡ Ok tt
+unfolding values_judged
+none_judged kind ws p = rw p
+
+pub loop-word-preserved : goal.loop-word-preserved
+loop-word-preserved c = let turn = first_judged c.args.kind _ _ _ _ c.in-Some.ensures.steps c.judge_value.ensures in search rules
+
+pub returns-in_err-judge_value : goal.returns-in_err-judge_value
+returns-in_err-judge_value c = let turn = first_judged c.args.kind _ _ _ _ c.in-Some.ensures.steps c.judge_value.ensures in search rules
 
 pub returns : goal.returns
-returns c = sym (c.loop-at.invariant.1 ∙ values_end _ _ _ c.loop-at-test.false)
+returns c = let none = none_judged c.args.kind _ c.in-None.ensures.steps.0 in search rules

@@ -1,18 +1,14 @@
 -- `commands::words::are_apart` meets its contract.
-use mathlib.Core.Path.{sym, ◌∙◌}
-use native.Mathlib.Omega.{arith}
-use Rattle.commands.proofs.WordLaws.{apart_step, apart_not, apart_end}
+use Rattle.std.proofs.Common.{rules, tests, not, eqb, length, ◌∙◌}
+use Rattle.std.proofs.lemmas.Iterator.Search.{all_from_yields_List}
+use Rattle.std.proofs.lemmas.Iterator.Splits.{YieldsList-from_slice_split}
+use Rattle.commands.proofs.WordLaws.{fields_split, all_some}
 use Rattle.commands.proofs.words.are_apart.Goals as goal
 
-pub returns-then-was_space-is_space : goal.returns-then-was_space-is_space
-returns-then-was_space-is_space c =
-    let loop = c.loop-i in
-    sym (loop.invariant.1 ∙ apart_not loop.was_space _ loop.i c.loop-i-test.true c.if-was_space-is_space.true)
-
-pub loop-i-preserved : goal.loop-i-preserved
-loop-i-preserved c =
-    let loop = c.loop-i in
-    (omega arith, loop.invariant.1 ∙ apart_step loop.was_space _ loop.i c.loop-i-test.true c.if-was_space-is_space.false)
-
 pub returns : goal.returns
-returns c = sym (c.loop-i.invariant.1 ∙ apart_end c.loop-i.was_space _ _ c.loop-i-test.false)
+returns c =
+    let all =
+    all_from_yields_List (λ w. not (eqb (length w) 0)) _ _ c.all.result c.all.ensures.ran
+    (YieldsList-from_slice_split _ (λ b. eqb b 32) c.args.s.now c.split.ensures.rest c.split.ensures.done c.split.ensures.closure (λ x b q k. search (rules, tests)))
+    (λ x b q k. search (rules, tests)) in
+    all ∙ rw (fields_split c.args.s.now) (all_some _)

@@ -1,20 +1,12 @@
 -- `commands::words::count_words` meets its contract.
-use mathlib.Core.Path.{ap}
-use native.Mathlib.Omega.{arith}
-use lib.ListN.{length}
-use Rattle.scan.proofs.PieceLaws.{rest_long}
-use Rattle.commands.proofs.WordLaws.{words_turn, words_end}
+use Rattle.std.proofs.Common.{◌≡◌, ℕ, List, length, ap, arith, inl}
+use Rattle.scan.specs.Left.{pieces_left}
+use Rattle.commands.specs.Words.{words_of}
+use Rattle.commands.proofs.WordLaws.{words_few}
 use Rattle.commands.proofs.words.count_words.Goals as goal
 
-pub loop-at-preserved : goal.loop-at-preserved
-loop-at-preserved c =
-    let loop = c.loop-at in
-    let s = c.args.s.now in
-    let l = rest_long s _ loop.at c.rest.ensures in
-    let one = ap length (words_turn s _ loop.at _ c.rest.ensures c.first_at-e.ensures.0 c.loop-at-test.true) in
-    (omega arith, omega arith, omega (arith, one, loop.invariant.2))
-
-pub returns : goal.returns
-returns c =
-    let none = ap length (words_end c.args.s.now c.loop-at.at c.loop-at-test.false) in
-    omega (arith, none, c.loop-at.invariant.2)
+pub count-requires-clause-fits : goal.count-requires-clause-fits
+count-requires-clause-fits c =
+    let few = words_few c.args.s.now in
+    let same : length (pieces_left c.words_of.result) ≡ length (words_of c.args.s.now) = ap length c.words_of.ensures in
+    inl (omega arith)

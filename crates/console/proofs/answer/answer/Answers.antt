@@ -1,33 +1,35 @@
 -- `console::answer::answer` meets its contract.
 use Rattle.console.specs.Answers.{Answers, Answered}
-use Rattle.console.proofs.AnswerLaws.{lends_as, fresh_as, answered_as, answered_by, read_as, saved_as}
+use Rattle.console.proofs.AnswerLaws.{answered_as, answered_by, read_as, saved_as}
 use Rattle.console.proofs.answer.answer.Goals as goal
 
-pub returns-then-ended-length-clause-answered : goal.returns-then-ended-length-clause-answered
-returns-then-ended-length-clause-answered g c = Answered.over c.if-ended-length.true
+pub returns-then-ended-length : goal.returns-then-ended-length
+returns-then-ended-length g c = rw c.clear.ensures (Answered.over c.if-ended-length.true)
 
-pub returns-in-Faulty-clause-answered : goal.returns-in-Faulty-clause-answered
-returns-in-Faulty-clause-answered g c =
-    answered_by c.if-ended-length.false c.asked-command.ensures c.heard-words.ensures c.in-Faulty.is Answers.faulty c.put_fault.ensures.puts
+pub returns-in-Err : goal.returns-in-Err
+returns-in-Err g c = rw c.put_fault.ensures.text (answered_by c.if-ended-length.false c.in-Err.ensures c.heard-words.ensures Answers.faulty)
 
-pub returns-in-Lend-clause-answered : goal.returns-in-Lend-clause-answered
-returns-in-Lend-clause-answered g c =
-    answered_by c.if-ended-length.false c.asked-command.ensures c.heard-words.ensures c.in-Lend.is (lends_as c.lend-more.ensures) c.put_ok.ensures.puts
+pub returns-in-Ok-Lend : goal.returns-in-Ok-Lend
+returns-in-Ok-Lend g c =
+    let asks = rw c.in-Ok-Lend.field-0-is at c.in-Ok-Lend.ensures in
+    rw (c.put_ok.ensures.text, c.lend.ensures) (answered_by c.if-ended-length.false asks c.heard-words.ensures Answers.lends)
 
-pub returns-in-Fresh-clause-answered : goal.returns-in-Fresh-clause-answered
-returns-in-Fresh-clause-answered g c =
-    let says = fresh_as c.clear_rows.ensures c.start-again.ensures in
-    answered_by c.if-ended-length.false c.asked-command.ensures c.heard-words.ensures c.in-Fresh.is says c.put_ok-in-Fresh.ensures.puts
+pub returns-in-Ok-Fresh : goal.returns-in-Ok-Fresh
+returns-in-Ok-Fresh g c =
+    let asks = rw c.in-Ok-Fresh.field-0-is at c.in-Ok-Fresh.ensures in
+    rw (c.put_ok-in-Ok-Fresh.ensures.text, c.clear-in-Ok-Fresh.ensures) (answered_by c.if-ended-length.false asks c.heard-words.ensures Answers.fresh)
 
-pub returns-in-Save-clause-answered : goal.returns-in-Save-clause-answered
-returns-in-Save-clause-answered g c =
-    answered_as c.if-ended-length.false c.asked-command.ensures c.heard-words.ensures c.in-Save.is (saved_as c.save.ensures.fact)
+pub returns-in-Ok-Save : goal.returns-in-Ok-Save
+returns-in-Ok-Save g c =
+    let asks = rw c.in-Ok-Save.field-0-is at c.in-Ok-Save.ensures in
+    answered_as c.if-ended-length.false asks c.heard-words.ensures (saved_as c.save.ensures.saved)
 
-pub returns-in-Read-clause-answered : goal.returns-in-Read-clause-answered
-returns-in-Read-clause-answered g c =
-    answered_as c.if-ended-length.false c.asked-command.ensures c.heard-words.ensures c.in-Read.is (read_as c.read-done.ensures.fact)
+pub returns-in-Ok-Read : goal.returns-in-Ok-Read
+returns-in-Ok-Read g c =
+    let asks = rw c.in-Ok-Read.field-0-is at c.in-Ok-Read.ensures in
+    answered_as c.if-ended-length.false asks c.heard-words.ensures (read_as c.read.ensures.reads)
 
-pub returns-in-Other-clause-answered : goal.returns-in-Other-clause-answered
-returns-in-Other-clause-answered g c =
-    let met = c.meet-done.ensures.fact in
-    answered_by c.if-ended-length.false c.asked-command.ensures c.heard-words.ensures c.in-Other.is (Answers.meets met.says) met.puts
+pub returns-in-Ok-Other : goal.returns-in-Ok-Other
+returns-in-Ok-Other g c =
+    let asks = rw c.in-Ok-Other.field-0-is at c.in-Ok-Other.ensures in
+    answered_by c.if-ended-length.false asks c.heard-words.ensures (Answers.meets c.meet.ensures)

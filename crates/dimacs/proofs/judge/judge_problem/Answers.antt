@@ -1,20 +1,31 @@
--- `dimacs::judge::judge_problem` meets its contract.
-use mathlib.Core.Path.{sym, ◌∙◌}
-use Rattle.dimacs.specs.Judgement.{problem_judged}
+use Rattle.std.proofs.Common.{◌&&◌, ◌≡◌, ◌∙◌, sym, leb}
+use borrow.Author.Tests.{le-leb, lt-leb}
+use Rattle.rules.proofs.JudgingLaws.{refusal_decides, rest_decides, nothing_follows}
+use Rattle.dimacs.specs.Judgement.{announced, problem_judged}
+use Rattle.dimacs.proofs.Judged.{handed_on, not_other}
 use Rattle.dimacs.proofs.judge.judge_problem.Goals as goal
+use Rattle.dimacs.proofs.judge.judge_problem.Goals.{then-rules-count, else-rules-count}
 
-pub returns-then-second : goal.returns-then-second
+pub returns-in_err-passes : goal.returns-in_err-passes
 unfolding problem_judged
-returns-then-second c = rw c.if-second.true
+returns-in_err-passes c =
+    handed_on _ _ _ c.from_residual.ensures.1 c.in_err-passes.was
+    ∙ refusal_decides _ (rw (not_other _ _ c.is_none.ensures) at c.passes.ensures) c.in_err-passes.was
 
-pub returns-then-not-are_within : goal.returns-then-not-are_within
+pub returns-in_err-passes-2 : goal.returns-in_err-passes-2
 unfolding problem_judged
-returns-then-not-are_within c = rw (c.if-second.false, sym c.are_within.ensures ∙ c.if-not-are_within.true)
-
-pub returns-then-rules-count : goal.returns-then-rules-count
-unfolding problem_judged
-returns-then-rules-count c = rw (c.if-second.false, sym c.are_within.ensures ∙ c.if-not-are_within.false, ← c.count_announced-count.ensures, c.if-rules-count.true)
+returns-in_err-passes-2 c =
+    handed_on _ _ _ c.from_residual-in_err-passes-2.ensures.1 c.in_err-passes-2.was
+    ∙ rest_decides (rw (not_other _ _ c.is_none.ensures) at c.passes.ensures) c.in_ok-passes.was
+    (refusal_decides _ (rw c.hold.ensures at c.passes-2.ensures) c.in_err-passes-2.was)
 
 pub returns : goal.returns
 unfolding problem_judged
-returns c = rw (c.if-second.false, sym c.are_within.ensures ∙ c.if-not-are_within.false, ← c.count_announced-count.ensures, c.if-rules-count.false)
+returns c =
+    let agree : c.if-rules-count.passes ≡ leb c.args.rules.fewest (announced c.args.rules c.args.ns) && leb (announced c.args.rules c.args.ns) c.args.rules.most =
+    elim c.if-rules-count.branch [
+      | then-rules-count w ↦ rw (← c.announced-count.ensures, le-leb _ _ w.if-rules-count.true) w.passes-is
+      | else-rules-count w ↦ let few = lt-leb _ _ w.if-rules-count.false in rw (← c.announced-count.ensures, few) (w.passes-is ∙ few)
+    ] in
+    rest_decides (rw (not_other _ _ c.is_none.ensures) at c.passes.ensures) c.in_ok-passes.was
+    (rest_decides (rw c.hold.ensures at c.passes-2.ensures) c.in_ok-passes-2.was (rw agree at c.passes-3.ensures ∙ sym (nothing_follows _)))

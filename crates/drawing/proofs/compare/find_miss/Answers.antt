@@ -1,30 +1,29 @@
 -- `drawing::compare::find_miss` meets its contract.
-use Prim.Native.Nat.{ℕ, ◌+◌}
-use mathlib.Core.Path.{refl, ◌∙◌}
-use native.Mathlib.Omega.{arith}
-use lib.ListN.{length-replicate}
-use Rattle.walks.specs.Rows.{rows}
+use Rattle.std.proofs.Common.{◌+◌, refl}
+use Rattle.walks.specs.Judged.{rows_in}
+use Rattle.passing.specs.Lent.{signs_of}
 use Rattle.settling.proofs.Widen.{heads_ends}
-use Rattle.passing.specs.Signs.{signs}
-use Rattle.drawing.proofs.MissedLaws.{lower_here, lower_stays, before_node}
+use Rattle.drawing.specs.Missed.{misses_node}
+use Rattle.drawing.proofs.MissedLaws.{first_by_marks, miss_found, miss_stays}
 use Rattle.drawing.proofs.compare.find_miss.Goals as goal
-use Rattle.drawing.proofs.compare.find_miss.Goals.{then-e-below, else-e-below}
+use Rattle.drawing.proofs.compare.find_miss.Goals.{in-Some, in_default}
 
-pub link-requires : goal.link-requires
-link-requires c = (heads_ends c.requires.0, refl, length-replicate {A = ℕ} 2048 0)
+pub link-chain-requires : goal.link-chain-requires
+link-chain-requires c = heads_ends c.args.tracks.sound
 
 pub loop-t-preserved : goal.loop-t-preserved
 loop-t-preserved c =
     let a = c.args in
     let l = c.loop-t in
-    let R = rows a.tails.now a.heads.now a.weights.now a.closures.now in
-    let G = signs a.x.now a.y.now a.boxes.now a.modules.now a.masks.now in
-    let marks = c.mark_toward.ensures in
-    let first = before_node R a.n a.m a.asked G (l.t + 1) marks c.tests_toward-tests.ensures c.before_miss-e.ensures in (
-      omega arith,
-      marks.long ∙ l.invariant.1,
-      elim c.if-e-below.branch [
-        | then-e-below w ↦ rw (w.below-is, w.node-is) (lower_here l.invariant.2 first w.if-e-below.true)
-        | else-e-below w ↦ rw (w.below-is, w.node-is) (lower_stays l.invariant.2 first w.if-e-below.false)
-      ],
-    )
+    let T = a.tracks in
+    let R = rows_in T in
+    let G = signs_of a.signs in
+    let test = misses_node R T.n T.m a.asked G in
+    let sieve = c.toward-sieve.ensures in
+    let first = first_by_marks R T.n T.m a.asked G (l.t + 1) c.first_miss.result c.mark_toward.ensures sieve.tests sieve.boxes sieve.masks c.first_miss.ensures in
+    elim c.match-first_miss.branch [
+      | in-Some w ↦
+          rw (w.below-is, w.miss-is) (miss_found test T.m l.t l.below l.miss l.invariant.0 l.invariant.1 (rw w.in-Some.is at first), refl)
+      | in_default w ↦
+          rw (w.below-is, w.miss-is) (miss_stays test T.m l.t l.below l.miss l.invariant.0 l.invariant.1 (rw w.in_default.is at first), l.invariant.1)
+    ]

@@ -1,15 +1,11 @@
--- `drawing::compare::find_miss` meets its contract. The loop's invariant: the lowest arc and node among the nodes up to t.
-use Prim.Native.Nat.{◌-◌, ◌≤◌}
-use mathlib.Core.Path.{◌≡◌}
-use lib.ListN.{length}
-use Rattle.walks.specs.Rows.{rows}
-use Rattle.passing.specs.Signs.{signs}
-use Rattle.drawing.specs.Missed.{misses_node}
-use Rattle.drawing.proofs.MissedLaws.{Lower}
+-- `drawing::compare::find_miss` meets its contract. The loop's invariant: `miss` is the first among the nodes up to t.
+use Rattle.walks.specs.Judged.{rows_in}
+use Rattle.passing.specs.Lent.{signs_of}
+use Rattle.drawing.specs.Missed.{misses_node, IsFirst}
+use Rattle.drawing.proofs.MissedLaws.{Below}
 use Rattle.drawing.proofs.compare.find_miss.Given as goal
 
 abbrev pub invariant-loop-t : goal.invariant-loop-t
-invariant-loop-t l = (l.t ≤ l.n) × (length l.marked ≡ 2048) × Lower (misses_node (rows l.tails l.heads l.weights l.closures) l.n l.m l.asked (signs l.x l.y l.boxes l.modules l.masks)) l.m l.t l.below l.node
-
-abbrev pub decreases-loop-t : goal.decreases-loop-t
-decreases-loop-t l = l.n - l.t
+invariant-loop-t l =
+    let m = l.tracks.m in
+    IsFirst (misses_node (rows_in l.tracks) l.tracks.n m l.asked (signs_of l.signs)) l.t m l.miss × Below m l.miss l.below

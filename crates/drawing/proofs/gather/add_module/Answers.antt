@@ -22,12 +22,10 @@ loop-e-preserved c =
     let a = c.args in
     let l = c.loop-e in
     let room = c.requires.2 c.if-not-asked.false in
-    let marked = a.marked.now in (
-      omega arith,
-      elim c.if-marked-e.branch [
-        | then-marked-e w ↦
-            let made = put_next l.masks _ l.e (at a.modules.now a.t) w.with_module.ensures w.masks-is in
-            add_turn (puts_single 0) (mark_of marked) _ l.invariant.1 (mark-next marked l.e w.if-marked-e.true) (omega (arith, room.1)) made
-        | else-marked-e w ↦ skip_turn (puts_single 0) (mark_of marked) _ l.invariant.1 (mark-next marked l.e w.if-marked-e.false) w.masks-is
-      ],
-    )
+    let marked = mark_of a.marked.now in
+    elim c.if-marked-e.branch [
+      | then-marked-e w ↦
+          let made = put_next l.masks _ l.e (at a.nodes.modules.now a.t) w.with_module.ensures w.masks-is in
+          add_turn (puts_single 0) marked _ l.invariant (mark-next a.marked.now l.e w.if-marked-e.true) (omega (arith, room.1)) made
+      | else-marked-e w ↦ skip_turn (puts_single 0) marked _ l.invariant (mark-next a.marked.now l.e w.if-marked-e.false) w.masks-is
+    ]

@@ -13,12 +13,10 @@ loop-e-preserved c =
     let a = c.args in
     let l = c.loop-e in
     let room = c.requires.2 c.if-not-asked.false in
-    let marked = a.marked.now in (
-      omega arith,
-      elim c.if-marked-e.branch [
-        | then-marked-e w ↦
-            let grown : w.grow_box.new.boxes ≡ with_box l.boxes (l.e + 1) (add_place a.x.now a.y.now a.t (box_of l.boxes (l.e + 1))) = search rules in
-            add_turn puts_box (mark_of marked) _ l.invariant.1 (mark-next marked l.e w.if-marked-e.true) (omega (arith, room.2)) (w.boxes-is ∙ grown)
-        | else-marked-e w ↦ skip_turn puts_box (mark_of marked) _ l.invariant.1 (mark-next marked l.e w.if-marked-e.false) w.boxes-is
-      ],
-    )
+    let marked = mark_of a.marked.now in
+    elim c.if-marked-e.branch [
+      | then-marked-e w ↦
+          let grown : w.grow_box.new.boxes ≡ with_box l.boxes (l.e + 1) (add_place a.nodes.x.now a.nodes.y.now a.t (box_of l.boxes (l.e + 1))) = search rules in
+          add_turn puts_box marked _ l.invariant (mark-next a.marked.now l.e w.if-marked-e.true) (omega (arith, room.2)) (w.boxes-is ∙ grown)
+      | else-marked-e w ↦ skip_turn puts_box marked _ l.invariant (mark-next a.marked.now l.e w.if-marked-e.false) w.boxes-is
+    ]

@@ -1,12 +1,8 @@
 -- `drawing::gather::empty_boxes` meets its contract. The loop's invariant: the boxes of the arcs up to e are empty.
-use Prim.Native.Nat.{◌-◌, ◌≤◌}
 use Rattle.geometry.specs.Box.{mark}
 use Rattle.drawing.specs.Drawn.{Drawn, box_row}
 use Rattle.drawing.specs.Gathered.{Emptied}
 use Rattle.drawing.proofs.gather.empty_boxes.Given as goal
 
 abbrev pub invariant-loop-e : goal.invariant-loop-e
-invariant-loop-e l = (l.e ≤ l.m) × Drawn box_row l.e (Emptied mark) l.initial.boxes l.boxes
-
-abbrev pub decreases-loop-e : goal.decreases-loop-e
-decreases-loop-e l = l.m - l.e
+invariant-loop-e l = Drawn box_row l.e (Emptied mark) l.initial.boxes l.boxes

@@ -1,11 +1,9 @@
 -- `drawing::mark::mark_toward` meets its contract.
-use mathlib.Core.Path.{ap}
-use Rattle.settling.specs.declared.Labels.{Labels}
-use Rattle.drawing.specs.Leads.{lengths_to}
+use Rattle.walks.specs.Judged.{rows_in}
+use Rattle.drawing.proofs.Steps.{lengths_turned}
 use Rattle.drawing.proofs.mark.mark_toward.Goals as goal
 
 pub returns : goal.returns
-unfolding lengths_to
 returns c =
-    let told = ap (λ (L : Labels). L.length) c.label_all-labels.ensures in
-    rw told at c.mark_arcs.ensures
+    let e = c.turned.ensures in
+    rw (lengths_turned {Q = rows_in c.turned.result} c.args.t c.label_all-labels.ensures e.turned e.nodes e.arcs) at c.mark_arcs.ensures

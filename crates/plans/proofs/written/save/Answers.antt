@@ -1,14 +1,15 @@
--- No more is lent than the row has.
-use Rattle.std.proofs.Common.{refl, sym, ◌∙◌, length-take-le, arith}
-use Rattle.commands.specs.declared.rows.Row.TheVariants.{Text}
-use Rattle.commands.specs.declared.rows.Kind.TheVariants.{Bytes}
-use Rattle.lending.proofs.PartLaws.{lies_in, places_are, part_long}
+-- `plans::written::save` meets its contract.
+use Rattle.std.proofs.Common.{Ok}
+use Rattle.desk.proofs.RequestLaws.{unsaved_on, saved_on}
 use Rattle.plans.proofs.written.save.Goals as goal
 
-pub save_by-requires : goal.save_by-requires
-save_by-requires g c =
-    let a = c.args in let s = c.stretch-s in
-    let most = places_are _ Text s.ensures.value s.ensures.lies in
-    let lies = lies_in _ Text s.ensures.value s.ensures.lies Bytes refl a.bytes.now c.requires.bytes in
-    let long = part_long _ Text s.ensures.value s.ensures.lies a.lent a.bytes.now lies in
-    (c.requires, length-take-le _ _ (omega (arith, most, c.lent_at-places.ensures)) ∙ c.lent_at-places.ensures ∙ sym long)
+pub returns-in_default-clause-saved : goal.returns-in_default-clause-saved
+returns-in_default-clause-saved g c = rw c.put_written.ensures.text (saved_on c.args.desk.now c.args.format c.write_rows-written.result c.fetch-places.ensures.copied c.write_rows-written.ensures)
+
+pub returns-then-is_err-clause-saved : goal.returns-then-is_err-clause-saved
+returns-then-is_err-clause-saved g c = rw c.put_unsaved.ensures.text (unsaved_on c.args.desk.now c.fetch-places.ensures.copied c.write_rows-written.ensures c.in-Ok.is)
+
+pub returns-clause-saved : goal.returns-clause-saved
+returns-clause-saved g c =
+    let wrote = rw c.in-Ok.is at c.write_rows-written.ensures in
+    rw c.put_written-2.ensures.text (saved_on c.args.desk.now c.args.format (Ok c.in-Ok.length) c.fetch-places.ensures.copied wrote)

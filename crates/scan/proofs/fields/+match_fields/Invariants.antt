@@ -1,4 +1,3 @@
--- Each call has a field of the form less to read.
 use Rattle.std.proofs.Common.{length}
 use Rattle.scan.proofs.fields.+match_fields.Given as goal
 

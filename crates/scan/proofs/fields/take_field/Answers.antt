@@ -1,32 +1,34 @@
--- `scan::fields::take_field` meets its contract.
-use mathlib.Core.Path.{sym, ap, ◌∙◌}
-use mathlib.Core.Bool.{true, false}
-use Rattle.scan.specs.Fields.{taken_natural}
-use Rattle.scan.specs.Held.{held_value, held_field}
-use Rattle.scan.specs.declared.numbers.Natural.{Natural}
-use Rattle.scan.specs.declared.holding.Value.TheVariants.{Unsigned}
-use Rattle.scan.specs.declared.fields.Field.TheVariants.{Taken}
-use Rattle.scan.proofs.FieldLaws.{field_integer, field_natural, field_word}
+use Rattle.std.proofs.Common.{rules, arith, ◌≤◌, get_or, w32, w64, SFits, to_z-of_z}
+use Rattle.std.proofs.lemmas.Bool.Decides.{nat_tests}
+use Rattle.scan.proofs.PieceLaws.{none_first}
+use Rattle.scan.proofs.FieldLaws.{field_signed, field_unsigned, field_word}
 use Rattle.scan.proofs.fields.take_field.Goals as goal
+use Rattle.scan.proofs.fields.take_field.Goals.{in_default-via-then-form-lt1, in_default-via-else-form-lt1+then-form-lt65, in_default-via-else-form-lt1+else-form-lt65+else-form-lt88+else-form-lt91}
 
-pub returns-then-b-ge88 : goal.returns-then-b-ge88
-returns-then-b-ge88 c = c.take_integer.ensures ∙ field_integer c.args.form.now _ _ c.first_byte-b.ensures _ c.if-b.true c.if-b-ge88.true c.read_integer.ensures
+pub returns-in_err-read_natural-in-65-to-87 : goal.returns-in_err-read_natural-in-65-to-87
+returns-in_err-read_natural-in-65-to-87 c =
+    rw (c.from_residual.ensures, field_unsigned c.args.form.now c.args.s.now (omega arith) (omega arith), ← c.read_natural.ensures, c.in_err-read_natural-in-65-to-87.was)
+
+pub returns-in_err-read_integer-in-88-to-90 : goal.returns-in_err-read_integer-in-88-to-90
+returns-in_err-read_integer-in-88-to-90 c =
+    rw (c.from_residual-in_err-read_integer-in-88-to-90.ensures, field_signed c.args.form.now c.args.s.now (omega arith) (omega arith), ← c.read_integer.ensures, c.in_err-read_integer-in-88-to-90.was)
+
+pub returns-in_ok-read_natural-in-65-to-87 : goal.returns-in_ok-read_natural-in-65-to-87
+returns-in_ok-read_natural-in-65-to-87 c =
+    rw (field_unsigned c.args.form.now c.args.s.now (omega arith) (omega arith), ← c.read_natural.ensures, c.in_ok-read_natural-in-65-to-87.was, c.hold.ensures)
+
+pub returns-in_ok-read_integer-in-88-to-90 : goal.returns-in_ok-read_integer-in-88-to-90
+returns-in_ok-read_integer-in-88-to-90 c =
+    let fits : SFits w32 c.hold_signed.result = search rules in
+    let wide : SFits w64 c.in_ok-read_integer-in-88-to-90.field-0 = search rules in
+    rw (field_signed c.args.form.now c.args.s.now (omega arith) (omega arith), ← c.read_integer.ensures, c.in_ok-read_integer-in-88-to-90.was, to_z-of_z fits, c.hold_signed.ensures, to_z-of_z wide)
 
 pub returns-in_default : goal.returns-in_default
-unfolding taken_natural held_field
 returns-in_default c =
-    ap (λ (n : Natural). held_field (taken_natural n)) (sym c.in_default.is)
-    ∙ field_natural c.args.form.now _ _ c.first_byte-b.ensures _ c.if-b.true c.if-b-ge88.false c.read_natural-n.ensures
-
-pub returns-then-b : goal.returns-then-b
-unfolding taken_natural held_field held_value
-returns-then-b c =
-    ap (λ v. Taken (Unsigned v)) c.hold.ensures
-    ∙ (ap (λ (n : Natural). held_field (taken_natural n)) (sym c.in-Number.is)
-    ∙ field_natural c.args.form.now _ _ c.first_byte-b.ensures _ c.if-b.true c.if-b-ge88.false c.read_natural-n.ensures)
-
-pub returns-then-same_bytes : goal.returns-then-same_bytes
-returns-then-same_bytes c = field_word c.args.form.now _ _ c.first_byte-b.ensures true c.if-b.false (sym c.same_bytes.ensures ∙ c.if-same_bytes.true)
-
-pub returns : goal.returns
-returns c = field_word c.args.form.now _ _ c.first_byte-b.ensures false c.if-b.false (sym c.same_bytes.ensures ∙ c.if-same_bytes.false)
+    let word : 65 ≤ get_or c.args.form.now 0 0 → get_or c.args.form.now 0 0 ≤ 90 → ⊥ =
+    λ h k. elim c.in_default.branch [
+      | in_default-via-then-form-lt1 w ↦ grind (arith, nat_tests, none_first)
+      | in_default-via-else-form-lt1+then-form-lt65 w ↦ omega arith
+      | in_default-via-else-form-lt1+else-form-lt65+else-form-lt88+else-form-lt91 w ↦ omega arith
+    ] in
+    rw (c.then_some.ensures, c.eq.ensures, field_word c.args.form.now c.args.s.now word)

@@ -1,18 +1,13 @@
-use native.Mathlib.Omega.{arith}
-use Rattle.scan.proofs.PieceLaws.{first_hit, first_miss, first_end}
+use Rattle.std.proofs.Common.{rules, tests, ◌≡◌, ◌∙◌, eqb, unwrap_or, length, ap}
+use Rattle.std.specs.List.{position}
+use Rattle.std.proofs.lemmas.Iterator.{YieldsList-from_slice}
+use Rattle.std.proofs.lemmas.Iterator.Search.{position_from_yields_List}
+use Rattle.scan.proofs.PieceLaws.{first_position, first_le}
 use Rattle.scan.proofs.pieces.first_at.Goals as goal
-
-pub returns-then-s-i : goal.returns-then-s-i
-returns-then-s-i c =
-    let l = c in
-    omega (arith, first_hit l.args.sep l.args.s.now l.loop-i.i c.loop-i-test.true c.if-s-i.true)
-
-pub loop-i-preserved : goal.loop-i-preserved
-loop-i-preserved c =
-    let l = c in
-    omega (arith, first_miss l.args.sep l.args.s.now l.loop-i.i c.loop-i-test.true c.if-s-i.false)
 
 pub returns : goal.returns
 returns c =
-    let l = c in
-    omega (arith, first_end l.args.sep l.args.s.now l.loop-i.i c.loop-i-test.false)
+    let found : c.position.result ≡ position (λ b. eqb b c.args.sep) c.args.s.now =
+    position_from_yields_List _ _ _ _ c.position.ensures.ran (YieldsList-from_slice c.args.s.now cc) (λ x b q k. search (rules, tests)) in
+    let is = c.unwrap_or.ensures ∙ (ap (λ r. unwrap_or r (length c.args.s.now)) found ∙ first_position c.args.sep c.args.s.now) in
+    (is, rw is (first_le c.args.sep c.args.s.now))

@@ -1,34 +1,20 @@
 -- `settling::settle::settle` meets its contract.
-use Prim.Native.Nat.{◌+◌}
 use native.Mathlib.Omega.{arith}
-use Rattle.settling.specs.Labels.{labels}
-use Rattle.settling.proofs.StepByStep.{stands_stuck, stands_ready, stands_found, stands_on, strode_over}
+use mathlib.Core.Path.{sym, ◌∙◌}
+use Rattle.settling.proofs.StepByStep.{stands_stuck, stands_ready, stands_below, stands_found, stands_on}
 use Rattle.settling.proofs.settle.settle.Goals as goal
 
-pub returns-in_default : goal.returns-in_default
-returns-in_default c =
-    let i = c.loop-left in
-    let L = labels i.length i.arcs i.settled in
-    strode_over _ _ L i.done _ (stands_stuck i.invariant.1 c.nearest-p.ensures c.in_default.is)
-
 pub returns-then-u-task : goal.returns-then-u-task
-returns-then-u-task c =
-    let i = c.loop-left in
-    let told = c.nearest-p.ensures in
-    let node = c.in-Node.is in
-    let L = labels i.length i.arcs i.settled in
-    strode_over _ _ L (i.done + 1) _ (stands_found i.invariant.1 told node c.if-u-task.true)
+returns-then-u-task c = stands_found c.loop-u.invariant c.in-Some.ensures c.if-u-task.true
 
-pub settle_one-requires : goal.settle_one-requires
-settle_one-requires c =
-    let i = c.loop-left in
-    let told = c.nearest-p.ensures in
-    let node = c.in-Node.is in
-    (i.invariant.1.posed, c.requires.1, stands_ready i.invariant.1 told node, i.invariant.1.front)
+pub settle_one-requires-clause-ready : goal.settle_one-requires-clause-ready
+settle_one-requires-clause-ready c = stands_ready c.loop-u.invariant c.in-Some.ensures
 
-pub loop-left-preserved : goal.loop-left-preserved
-loop-left-preserved c =
-    let i = c.loop-left in
-    let told = c.nearest-p.ensures in
-    let node = c.in-Node.is in
-    (omega (arith, i.invariant.0, c.loop-left-test.true), stands_on i.invariant.1 told node c.if-u-task.false c.settle_one.ensures)
+pub loop-u-smaller : goal.loop-u-smaller
+loop-u-smaller c = omega (arith, stands_below c.loop-u.invariant c.in-Some.ensures)
+
+pub loop-u-preserved : goal.loop-u-preserved
+loop-u-preserved c = stands_on c.loop-u.invariant c.in-Some.ensures c.if-u-task.false c.settle_one.ensures
+
+pub returns : goal.returns
+returns c = stands_stuck c.loop-u.invariant (sym c.in_default.is ∙ c.nearest.ensures)

@@ -1,0 +1,9 @@
+-- `lending::Desk::clear` meets its contract.
+use Rattle.lending.proofs.Desk.clear.Goals as goal
+
+pub returns : goal.returns
+returns c =
+    let counts = c.fill.ensures.after (λ y e. e) in
+    let numbers = c.fill-2.ensures.after (λ y e. e) in
+    let bytes = c.fill-3.ensures.after (λ y e. e) in
+    rw (c.all-self.ensures, counts, numbers, bytes)

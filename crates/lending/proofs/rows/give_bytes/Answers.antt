@@ -1,6 +1,0 @@
--- `lending::rows::give_bytes` meets its contract.
-use Rattle.lending.proofs.PartLaws.{put_is}
-use Rattle.lending.proofs.rows.give_bytes.Goals as goal
-
-pub returns : goal.returns
-returns c = put_is _ c.args.row c.stretch-s.ensures.value c.stretch-s.ensures.lies _ _ _ c.copy_bytes.ensures

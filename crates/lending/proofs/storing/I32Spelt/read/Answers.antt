@@ -1,0 +1,9 @@
+-- `lending::storing::I32Spelt::read` meets its contract.
+use Rattle.std.proofs.Common.{ap, sym, ◌∙◌}
+use Rattle.lending.specs.Lending.{whole_in}
+use Rattle.lending.proofs.StoreLaws.{judged_ok}
+use Rattle.lending.proofs.storing.I32Spelt.read.Goals as goal
+
+pub returns : goal.returns
+unfolding whole_in
+returns c = λ h. c.read_signed.ensures ∙ judged_ok _ _ (λ v e. ap whole_in (sym e)) h

@@ -1,0 +1,9 @@
+-- `lending::storing::U8Spelt::read` meets its contract.
+use Rattle.std.proofs.Common.{ap, sym, ◌∙◌}
+use Rattle.lending.specs.Lending.{count_in}
+use Rattle.lending.proofs.StoreLaws.{judged_ok}
+use Rattle.lending.proofs.storing.U8Spelt.read.Goals as goal
+
+pub returns : goal.returns
+unfolding count_in
+returns c = λ h. c.read_byte.ensures ∙ judged_ok _ _ (λ v e. ap count_in (sym e)) h

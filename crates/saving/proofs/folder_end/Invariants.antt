@@ -1,9 +1,0 @@
--- The folder's end lies within what was looked at.
-use Rattle.std.proofs.Common.{◌≤◌, ◌-◌, length}
-use Rattle.saving.proofs.folder_end.Given as goal
-
-abbrev pub invariant-loop-i : goal.invariant-loop-i
-invariant-loop-i l = (l.i ≤ length l.path) × (l.end ≤ l.i)
-
-abbrev pub decreases-loop-i : goal.decreases-loop-i
-decreases-loop-i l = length l.path - l.i
