@@ -17,11 +17,6 @@ unfolding pieces first_at
 words_after [] = refl
 words_after (b ∷ t) = rw (words_step (b ∷ t) (omega arith))
 
-pub words_none : (s : List ℕ) → length s ≡ 0 → words_of s ≡ []
-unfolding pieces
-words_none [] e = refl
-words_none (b ∷ t) e = absurd (omega arith)
-
 -- a word takes a byte at least
 pub words_few : (s : List ℕ) → length (words_of s) ≤ length s
 unfolding pieces opening

@@ -4,7 +4,6 @@ use mathlib.Core.Path.{◌≡◌, refl, ap, subst₂, ◌∙◌}
 use mathlib.Core.Bool.{Bool, true, false, cond}
 use mathlib.Core.List.{List, [], ◌∷◌, ◌++◌}
 use native.Mathlib.Omega.{arith}
-use native.Mathlib.Nat.{le_antisymm}
 use Rattle.std.specs.Prelude.{Option, Some, None}
 use Rattle.std.specs.Option.{unwrap_or}
 use lib.IntN.{ℤ}
@@ -16,7 +15,7 @@ use Rattle.passing.specs.Signs.{boxes_alone, box_signs}
 use Rattle.passing.specs.Passing.{passing}
 use Rattle.search.specs.Says.{Answers}
 use Rattle.daylist.specs.Replies.{Replies, has_route, length_told, no_route, with_route, with_none, total}
-use Rattle.daylist.specs.Steps.{Queried, counted, InRows, Answered, AllAnswered}
+use Rattle.daylist.specs.Steps.{Queried, counted, InRows, Answered}
 use Rattle.daylist.specs.declared.Totals.{Totals}
 use Rattle.daylist.proofs.ReplyLaws.{one_more, with_route_more, with_none_more, total_more, filled_more, length_more}
 

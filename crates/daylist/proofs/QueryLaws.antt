@@ -1,14 +1,12 @@
 -- What a run along chained arcs tells of a query.
 use Prim.Native.Nat.{ℕ, ◌≤◌}
-use mathlib.Core.Path.{◌≡◌, refl, sym, ◌∙◌}
+use mathlib.Core.Path.{◌≡◌, refl}
 use mathlib.Core.Bool.{Bool, true, false, false≢true}
 use mathlib.Core.List.{List, [], ◌∷◌}
 use mathlib.Core.Logic.{inl, inr}
 use native.Mathlib.Omega.{arith}
 use lib.IntN.{ℤ}
-use lib.Dec.{ltb}
 use lib.ListN.{replicate, length-replicate}
-use borrow.Author.Tests.{lt-ltb, le-ltb}
 use Rattle.std.specs.Prelude.{Option, Some, None}
 use Rattle.rules.specs.Paper.{accepted, refusal}
 use Rattle.rules.specs.declared.Refusal.TheVariants.{NoWalk}
@@ -22,7 +20,7 @@ use Rattle.passing.proofs.PassingLaws.{tested_arcs}
 use Rattle.settling.specs.declared.Outcome.{Outcome}
 use Rattle.settling.specs.Labels.{length_of, arcs_of}
 use Rattle.settling.specs.Run.{search_of}
-use Rattle.settling.proofs.Choice.{either}
+use Rattle.std.proofs.lemmas.Bool.{cases_Bool}
 use Rattle.settling.proofs.SearchIsRight.{search_found, search_missed}
 use Rattle.search.specs.Says.{found, none}
 use Rattle.daylist.specs.Steps.{Queried}
@@ -66,7 +64,7 @@ module _ {n m : ℕ} {R : Rows} (sound : Sound n m R) (x y boxes : List ℤ) (s 
 
   -- so every query has an answer
   pub some_asked : (l : Option ℕ) × Queried n m R x y boxes s t l
-  some_asked = elim (either (search_of R keep n m t s).found) [
+  some_asked = elim (cases_Bool (search_of R keep n m t s).found) [
     | inl e ↦ (Some (length_of (search_of R keep n m t s).labels t), found-asked e)
     | inr e ↦ (None, missed_asked e)
   ]

@@ -10,14 +10,3 @@ pub struct Input {
     ghost at_bound: { at ≤ end },
     ghost end_bound: { end ≤ 4096 },
 }
-
-impl Input {
-    // Nothing was read yet.
-    pub fn new() -> Input {
-        Input {
-            chunk: [0; 4096],
-            at: 0,
-            end: 0,
-        }
-    }
-}

@@ -3,7 +3,7 @@
 
 mod input;
 
-ghost use Rattle.std.specs.Prelude.{◌≡◌, ◌+◌, ◌<◌, ◌∷◌, min, length, set};
+ghost use Rattle.std.specs.Prelude.{◌≡◌, ◌+◌, ◌<◌, [], ◌∷◌, min, length, set};
 ghost use Rattle.hearing.specs.Hearing.{ahead_of, HeardLine, Follows};
 
 pub use input::Input;
@@ -30,6 +30,18 @@ fn hear(line: &mut [u8], at: usize, byte: u8) -> usize
 }
 
 impl Input {
+    // Nothing was read yet.
+    #[tactic(auto, unfolding(crate::specs::Hearing::ahead_of))]
+    pub fn new() -> Input
+        ensures { ahead_of result ≡ [] }
+    {
+        Input {
+            chunk: [0; 4096],
+            at: 0,
+            end: 0,
+        }
+    }
+
     // Takes the byte that is ahead.
     fn take(&mut self) -> u8
         requires { self.old.at < self.old.end }

@@ -46,8 +46,8 @@ graph_told (graph_read {s = s} p) = read_told _ s p.reply
 abbrev Mapped : (Trouble → Unusable) → Result Unit Trouble → Result Unit Unusable → Type 0
 Mapped f r q = MatchResult r (λ x. q ≡ Ok x) (λ t. IsErrAnd q (λ u. u ≡ f t))
 
-pub graph_fails : {before graph after : Plan} {gr co : Held} (r : Result Unit Trouble) {u : Unusable}
-    → Mapped Graph r (Err u) → ReadsGraph before gr r graph → Loads before gr co (Err u) after
+pub graph_fails : {before after : Plan} {gr co : Held} (r : Result Unit Trouble) {u : Unusable}
+    → Mapped Graph r (Err u) → ReadsGraph before gr r after → Loads before gr co (Err u) after
 graph_fails (Ok _) h g = cc
 graph_fails (Err t) h g = rw h (no_graph g)
 

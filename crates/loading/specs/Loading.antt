@@ -73,10 +73,10 @@ pub data ReadsPlaces (before : Plan) : Held → Result Unit Trouble → Plan →
       → BuildSays before.sizes.n before.sizes.m before.arcs x y before.boxes (judged_reply answer) boxes
       → ReadsPlaces before (text held) (troubled answer) (plan before.sizes before.arcs x y boxes)
 
--- `net.gr` is opened and judged before `net.co`; what the rows hold is said of a plan with its boxes alone
+-- `net.gr` is opened and judged before `net.co`
 pub data Loads (before : Plan) (gr co : Held) : Result Unit Unusable → Plan → Type 0 where
-  no_graph : {t : Trouble} {graph after : Plan} → ReadsGraph before gr (Err t) graph → Loads before gr co (Err (Graph t)) after
-  no_places : {t : Trouble} {graph built after : Plan} → ReadsGraph before gr (Ok tt) graph → ReadsPlaces graph co (Err t) built
+  no_graph : {t : Trouble} {after : Plan} → ReadsGraph before gr (Err t) after → Loads before gr co (Err (Graph t)) after
+  no_places : {t : Trouble} {graph after : Plan} → ReadsGraph before gr (Ok tt) graph → ReadsPlaces graph co (Err t) after
       → Loads before gr co (Err (Places t)) after
   loaded : {graph after : Plan} → ReadsGraph before gr (Ok tt) graph → ReadsPlaces graph co (Ok tt) after → Loads before gr co (Ok tt) after
 

@@ -33,7 +33,8 @@ pub enum Unusable {
 #[tactic(auto, unfolding(crate::specs::Loading::trouble_text, scan::specs::Ascii::bytes))]
 pub fn put_trouble(page: &mut Page<PAGE>, trouble: Trouble, end: &[u8])
     requires { length end.now ≤ 100 }
-    ensures { page.new ≡ trouble_text trouble ++ end.now }
+    ensures text { page.new ≡ trouble_text trouble ++ end.now }
+    ensures few { length page.new ≤ 400 }
 {
     page.clear();
     match trouble {

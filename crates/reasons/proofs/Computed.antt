@@ -17,7 +17,7 @@ use Rattle.settling.specs.declared.Outcome.{Outcome}
 use Rattle.settling.specs.Labels.{length_of, arcs_of}
 use Rattle.settling.specs.Run.{search_of}
 use Rattle.settling.specs.Trace.{trace_of}
-use Rattle.settling.proofs.Choice.{cond_by}
+use Rattle.std.proofs.lemmas.Bool.{cond_both}
 use Rattle.settling.proofs.SearchIsRight.{search_found, search_missed}
 use Rattle.judging.specs.Order.{why_judged}
 use Rattle.judging.proofs.FineLaws.{why_fine}
@@ -85,18 +85,18 @@ module _ (n m : ℕ) (R : Rows) (s t e : ℕ) where
       reason_told : Tells reason_of
       unfolding reason_by reason_of
       reason_told =
-          cond_by Tells (is_open R.closures e) _ _
+          cond_both (is_open R.closures e) _ _ Tells
           (λ clear.
           let o = eqb-true (at R.closures e) 0 clear in
-          cond_by Tells to_start.found _ _
+          cond_both to_start.found _ _ Tells
           (λ there.
           let p = way_leads asked.sound asked.source_low asked.source_high {o = to_start} refl there in
-          cond_by Tells back_to.found _ _
+          cond_both back_to.found _ _ Tells
           (λ back.
           let q = way_leads (turned_sound asked.sound) asked.target_low asked.target_high {o = back_to} refl back in
-          cond_by Tells (ltb (length_of to_end.labels t) through) _ _
+          cond_both (ltb (length_of to_end.labels t) through) _ _ Tells
           (λ more. told_longer asked known o p q (ltb-true _ through more))
-          (λ less. cond_by Tells (is_among e route) _ _
+          (λ less. cond_both (is_among e route) _ _ Tells
           (λ on. told_on_route asked known o p q on)
           (λ off. told_tied asked known o p q (omega (arith, ltb-false _ through less)) off)))
           (λ away. end_cut asked known o (way_cut (turned_sound asked.sound) asked.target_low asked.target_high {o = back_to} refl away)))
@@ -106,7 +106,7 @@ module _ (n m : ℕ) (R : Rows) (s t e : ℕ) where
     answer_told : Answers (network m R) n s t e (judged_reply fine)
     unfolding network judged_reply
     answer_told =
-        cond_by (Answers (network m R) n s t e) to_end.found _ _
+        cond_both to_end.found _ _ (Answers (network m R) n s t e)
         (λ f.
         let a = search_found asked.sound asked.source_low asked.source_high t f (replicate n 0) (omega (arith, length-replicate {A = ℕ} n 0)) in
         let row = first_places_lem a.arcs (drop (length a.arcs) (replicate n 0)) (arcs_of to_end.labels t) a.count in

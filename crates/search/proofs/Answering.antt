@@ -15,7 +15,7 @@ use Rattle.settling.specs.declared.Outcome.{Outcome}
 use Rattle.settling.specs.Labels.{length_of, arcs_of}
 use Rattle.settling.specs.Run.{search_of}
 use Rattle.settling.specs.Trace.{trace_of}
-use Rattle.settling.proofs.Choice.{either}
+use Rattle.std.proofs.lemmas.Bool.{cases_Bool}
 use Rattle.settling.proofs.SearchIsRight.{search_found, search_missed}
 use Rattle.std.specs.Prelude.{Ok, Err}
 use Rattle.search.specs.Paper.{paper}
@@ -31,7 +31,7 @@ module _
     (row : List ℕ) (long : n ≤ length row) {o : Outcome} (run : o ≡ search_of R keep n m t s)
   where
     pub count_small : o.count ≤ 513
-    count_small = rw run (elim (either (search_of R keep n m t s).found) [
+    count_small = rw run (elim (cases_Bool (search_of R keep n m t s).found) [
       | inl e ↦ omega (arith, settled_small (search_found sound low high t e row long).found.settled, sound.nodes_high)
       | inr e ↦ omega (arith, settled_small (search_missed sound {keep = keep} low high t e).settled, sound.nodes_high)
     ])

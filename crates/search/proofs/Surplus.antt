@@ -15,7 +15,7 @@ use Rattle.walks.specs.Walk.{Net, kept}
 use Rattle.walks.specs.Rows.{Rows, laid, network}
 use Rattle.walks.specs.Search.{Found}
 use Rattle.walks.proofs.SearchLaws.{found_unique, not_both}
-use Rattle.settling.proofs.Choice.{either}
+use Rattle.std.proofs.lemmas.Bool.{cases_Bool}
 use Rattle.settling.specs.Run.{search_of}
 use Rattle.settling.proofs.SearchIsRight.{search_found, search_missed}
 use Rattle.passing.specs.Signs.{Signs}
@@ -45,7 +45,7 @@ row_cut route before n short long =
 short :
     {n m : ℕ} {R : Rows} (keep : ℕ → Bool) {N : Net} {s t : ℕ} (before : List ℕ) → SearchLent n m R s t (length before) → Alike N (kept keep (laid m R))
     → (d k c : ℕ) (route : List ℕ) → Found N n s t d k c route → length route ≤ n
-short {n} {m} {R} keep {N} {s} {t} before l x d k c route f = elim (either (search_of R keep n m t s).found) [
+short {n} {m} {R} keep {N} {s} {t} before l x d k c route f = elim (cases_Bool (search_of R keep n m t s).found) [
   | inl e ↦
       let a = search_found l.sound l.source_low l.source_high t e before l.room in
       omega (arith, ap length (found_unique (found_alike x f) a.found).route, a.count, a.few)

@@ -1,4 +1,3 @@
-pub mod Choice
 pub mod Widen
 mod Offers
 mod SettleSteps

@@ -10,10 +10,10 @@ pub returns-in-Graph : goal.returns-in-Graph
 unfolding bytes
 returns-in-Graph c =
     let loads = rw (c.blank-plan.ensures, c.in-Graph.is) at c.in-Err.ensures.loads in
-    rw c.put_trouble.ensures (graph loads)
+    rw c.put_trouble.ensures.text (graph loads)
 
 pub returns-in-Places : goal.returns-in-Places
 unfolding bytes
 returns-in-Places c =
     let loads = rw (c.blank-plan.ensures, c.in-Places.is) at c.in-Err.ensures.loads in
-    rw c.put_trouble-in-Places.ensures (places loads)
+    rw c.put_trouble-in-Places.ensures.text (places loads)

@@ -8,4 +8,4 @@ returns-in-Ok c = rw (c.put_totals.ensures.puts, c.put_journeys.ensures.listed) 
 
 pub returns-in-Err : goal.returns-in-Err
 unfolding bytes
-returns-in-Err c = rw c.put_trouble.ensures (trouble_prints c.in-Err.ensures.runs)
+returns-in-Err c = rw c.put_trouble.ensures.text (trouble_prints c.in-Err.ensures.runs)
