@@ -1,3 +1,4 @@
 pub mod AndLaws
 pub mod JudgingLaws
 pub mod PaperLaws
+pub mod ToldLaws

@@ -1,4 +1,5 @@
 pub mod Limits
 pub mod Paper
+pub mod Places
 pub mod Told
 pub mod Judging

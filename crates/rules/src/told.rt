@@ -1,7 +1,8 @@
 // A refusal as the paper tells it.
 ghost use Rattle.std.specs.Prelude.{◌≡◌, ◌≤◌, take};
+ghost use Rattle.rules.specs.Places.{places};
 
-// A refusal's number, and its values, which stand first of three places.
+// A refusal's number, and its values, which stand first of three places; the other places hold 0.
 #[derive(Drop)]
 pub struct Told {
     pub number: u32,
@@ -23,6 +24,7 @@ pub fn tell<const N: usize>(number: u32, values: [u32; N]) -> Told
     requires { N ≤ 3 }
     ensures told_number { result.number ≡ number }
     ensures told_values { take result.count result.places ≡ values.entry }
+    ensures told_places { result.places ≡ places values.entry }
 {
     let mut places = [0; 3];
     places[..N].copy_from_slice(&values);
