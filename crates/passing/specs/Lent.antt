@@ -1,17 +1,6 @@
--- The signs that are lent, and what a sieve keeps.
-use Rattle.std.specs.Prelude.{Bool, List, ℕ}
+-- The signs that are lent.
 use Rattle.passing.specs.Signs.{Signs, signs}
-use Rattle.passing.specs.Asking.{keeps, Room}
 use Rattle.passing.specs.declared.Signs.{Signs as SignsLent}
-use Rattle.passing.specs.declared.Sieve.{Sieve}
 
 abbrev pub signs_of : SignsLent → Signs
 signs_of G = signs G.nodes.x.now G.nodes.y.now G.boxes.now G.nodes.modules.now G.masks.now
-
--- the arcs that may be used
-abbrev pub keeps_by : Sieve → List ℕ → ℕ → Bool
-keeps_by S closures = keeps S.tests closures S.boxes.now S.masks.now
-
--- the rows serve what is asked of m arcs
-abbrev pub RoomBy : Sieve → ℕ → Type 0
-RoomBy S m = Room S.tests m S.boxes.now S.masks.now

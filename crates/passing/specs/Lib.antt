@@ -3,4 +3,4 @@ pub mod Signs
 pub mod Passing
 pub mod Asking
 pub mod Lent
-pub mod RoomIsFact
+pub mod Sieving

@@ -7,7 +7,7 @@ use Rattle.geometry.specs.Box.WellShaped.{sides, nothing}
 use Rattle.passing.specs.declared.Place.{Place}
 use Rattle.passing.specs.declared.Sieve.{Sieve}
 use Rattle.passing.specs.Asking.{BoxRoom, MaskRoom}
-use Rattle.passing.specs.Lent.{RoomBy}
+use Rattle.passing.specs.Sieving.{RoomBy}
 
 reversed : (b : Box) → Sided b → b ≡ mark → ⊥
 reversed b s e = let h : pos 1 ≤ℤ pos 0 = subst (λ (c : Box). c.left ≤ℤ c.right) e s.upright.across in h.le
