@@ -2,9 +2,9 @@
 ghost use Rattle.std.specs.Prelude.{◌≡◌};
 ghost use Rattle.scan.specs.Held.{held_line};
 ghost use Rattle.dimacs.specs.Rules.{naturals, located, none_above, within};
-ghost use Rattle.dimacs.specs.Gr.{gr_rules};
-ghost use Rattle.dimacs.specs.Co.{co_rules};
-ghost use Rattle.dimacs.specs.P2p.{p2p_rules};
+ghost use Rattle.dimacs.specs.Gr.{gr_line, gr_rules};
+ghost use Rattle.dimacs.specs.Co.{co_line, co_rules};
+ghost use Rattle.dimacs.specs.P2p.{p2p_line, p2p_rules};
 ghost use Rattle.dimacs.specs.Formats.{format_line, rules_of};
 
 use crate::rows::Column;
@@ -165,14 +165,35 @@ impl Format {
     }
 
     // What a line is.
-    #[tactic(auto, unfolding(crate::specs::Gr::gr_line, crate::specs::Co::co_line, crate::specs::P2p::p2p_line, scan::specs::Ascii::bytes))]
     pub fn line(self, s: &[u8]) -> Result<Line, Fault>
         ensures { result ≡ held_line (format_line self s.now) }
     {
         match self {
-            Format::Graph => read_line(s, b"p sp N M", b"a U V W"),
-            Format::Coordinates(_) => read_line(s, b"p aux sp co N", b"v ID X Y"),
-            Format::Queries(_) => read_line(s, b"p aux sp p2p K", b"q S T"),
+            Format::Graph => line_gr(s),
+            Format::Coordinates(_) => line_co(s),
+            Format::Queries(_) => line_p2p(s),
         }
     }
+}
+
+// A line of a graph, of coordinates, and of queries.
+#[tactic(auto, unfolding(crate::specs::Gr::gr_line, scan::specs::Ascii::bytes))]
+fn line_gr(s: &[u8]) -> Result<Line, Fault>
+    ensures { result ≡ held_line (gr_line s.now) }
+{
+    read_line(s, b"p sp N M", b"a U V W")
+}
+
+#[tactic(auto, unfolding(crate::specs::Co::co_line, scan::specs::Ascii::bytes))]
+fn line_co(s: &[u8]) -> Result<Line, Fault>
+    ensures { result ≡ held_line (co_line s.now) }
+{
+    read_line(s, b"p aux sp co N", b"v ID X Y")
+}
+
+#[tactic(auto, unfolding(crate::specs::P2p::p2p_line, scan::specs::Ascii::bytes))]
+fn line_p2p(s: &[u8]) -> Result<Line, Fault>
+    ensures { result ≡ held_line (p2p_line s.now) }
+{
+    read_line(s, b"p aux sp p2p K", b"q S T")
 }

@@ -1,4 +1,5 @@
 pub mod Order
+pub mod Signed
 pub mod SmallestLaws
 pub mod Tests
 pub mod MarkLaws
