@@ -10,12 +10,14 @@ use Rattle.rules.specs.Judging.{Judged, fine}
 use Rattle.std.specs.Prelude.{Err}
 use Rattle.rules.specs.declared.Refusal.{Refusal}
 use Rattle.walks.specs.Walk.{Net}
+use Rattle.walks.specs.Rows.{Rows}
 use Rattle.walks.specs.Through.{Consistent}
-use Rattle.passing.specs.Signs.{Signs, box_signs}
+use Rattle.passing.specs.Signs.{Signs, signs, boxes_alone, box_signs}
 use Rattle.passing.specs.Passing.{Keeps}
 use Rattle.passing.specs.Asking.{Lent}
 use Rattle.passing.specs.Lent.{signs_of}
 use Rattle.passing.specs.declared.Signs.{Signs as SignsOf}
+use Rattle.judging.proofs.StageLaws.{SignsLent}
 use Rattle.boxwork.specs.Says.{Checks, boxes_of, masks_of}
 use Rattle.boxwork.specs.Missing.{Missing, nowhere, first}
 
@@ -53,6 +55,17 @@ module _ {asked : Asked} {n m : ℕ} {G : Signs} (l : Lent asked n m G) where
     masks_long = l.masks_long;
     numbers = l.numbers;
   }
+
+-- boxes alone, whatever other rows there are
+pub lent_alone : {n m : ℕ} {R : Rows} {x y boxes : List ℤ} (modules masks : List ℕ) → SignsLent boxes_alone n m R (box_signs x y boxes) → Lent boxes_alone n m (signs x y boxes modules masks)
+lent_alone modules masks l = record {
+  x_long = λ h. (l.places h).x_long;
+  y_long = λ h. (l.places h).y_long;
+  boxes_long = λ h. (l.places h).boxes_long;
+  modules_long = λ h. absurd (false≢true h);
+  masks_long = λ h. absurd (false≢true h);
+  numbers = λ h. absurd (false≢true h);
+}
 
 -- the signs of boxes alone
 pub of_boxes_lem : (S : SignsOf) {x y boxes : List ℤ} → (S.nodes.x.now ≡ x) × (S.nodes.y.now ≡ y) → S.boxes.now ≡ boxes → (S.nodes.modules.now ≡ []) × (S.masks.now ≡ [])

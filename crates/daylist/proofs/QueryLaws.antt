@@ -1,13 +1,16 @@
 -- What a run along chained arcs tells of a query.
 use Prim.Native.Nat.{ℕ, ◌≤◌}
-use mathlib.Core.Path.{◌≡◌, refl}
+use mathlib.Core.Path.{◌≡◌, refl, sym}
 use mathlib.Core.Bool.{Bool, true, false, false≢true}
 use mathlib.Core.List.{List, [], ◌∷◌}
 use mathlib.Core.Logic.{inl, inr}
 use native.Mathlib.Omega.{arith}
 use lib.IntN.{ℤ}
 use lib.ListN.{replicate, length-replicate}
+use lib.Dec.{ltb}
+use borrow.Author.Tests.{lt-ltb, le-ltb}
 use Rattle.std.specs.Prelude.{Option, Some, None}
+use Rattle.std.specs.Option.{unwrap_or}
 use Rattle.rules.specs.Paper.{accepted, refusal}
 use Rattle.rules.specs.declared.Refusal.TheVariants.{NoWalk}
 use Rattle.walks.specs.Walk.{kept}
@@ -23,6 +26,7 @@ use Rattle.settling.specs.Run.{search_of}
 use Rattle.std.proofs.lemmas.Bool.{cases_Bool}
 use Rattle.settling.proofs.SearchIsRight.{search_found, search_missed}
 use Rattle.search.specs.Says.{found, none}
+use Rattle.daylist.specs.Replies.{has_route, no_route}
 use Rattle.daylist.specs.Steps.{Queried}
 
 module _ {n m : ℕ} {R : Rows} (sound : Sound n m R) (x y boxes : List ℤ) (s t : ℕ) (low : 1 ≤ s) (high : s ≤ n) where
@@ -68,3 +72,11 @@ module _ {n m : ℕ} {R : Rows} (sound : Sound n m R) (x y boxes : List ℤ) (s 
     | inl e ↦ (Some (length_of (search_of R keep n m t s).labels t), found-asked e)
     | inr e ↦ (None, missed_asked e)
   ]
+
+-- the mark tells whether there is a route
+pub told-route : {n m : ℕ} {R : Rows} {x y boxes : List ℤ} {s t : ℕ} {l : Option ℕ} (a : Queried n m R x y boxes s t l) → has_route a.reply ≡ ltb (unwrap_or l no_route) no_route
+told-route {l = l} a = by_route (has_route a.reply) refl
+  where
+    by_route : (z : Bool) → has_route a.reply ≡ z → z ≡ ltb (unwrap_or l no_route) no_route
+    by_route true e = rw (a.told, e) (sym (lt-ltb _ no_route (omega (arith, a.near e))))
+    by_route false e = rw (a.told, e) (sym (le-ltb no_route no_route (omega arith)))

@@ -1,6 +1,7 @@
 -- From a text that was read, and rows that were judged, to what a day's list says.
 use Prim.Native.Nat.{ℕ, ◌≤◌}
 use mathlib.Core.Path.{◌≡◌, refl, sym, ap, ◌∙◌}
+use mathlib.Core.Bool.{true}
 use mathlib.Core.List.{List, [], ◌∷◌}
 use native.Mathlib.Omega.{arith}
 use lib.IntN.{ℤ}
@@ -21,8 +22,8 @@ use Rattle.dimacs.specs.Promise.{P2pPromise}
 use Rattle.dimacs.specs.declared.rows.Column.TheVariants.{First, Second}
 use Rattle.dimacs.proofs.Accepted.{not_accepted, front, p2p_count, p2p_read, read_p2p_limits}
 use Rattle.walks.specs.Rows.{Rows}
-use Rattle.passing.specs.Signs.{boxes_alone, box_signs}
-use Rattle.judging.specs.Order.{check_judged, day_judged}
+use Rattle.passing.specs.Signs.{signs, boxes_alone, box_signs}
+use Rattle.judging.specs.Order.{network_judged, placed_by, shaped_by, check_judged, day_judged}
 use Rattle.judging.proofs.FineLaws.{check_fine}
 use Rattle.daylist.specs.Paper.{paper}
 use Rattle.daylist.specs.Says.{DaySays, answered}
@@ -30,6 +31,12 @@ use Rattle.daylist.specs.Steps.{Lent, InRows, AllAnswered}
 use Rattle.daylist.specs.declared.Totals.{Totals}
 
 -- ---- the rows
+
+-- they are judged so whatever modules and masks there are
+pub boxes_judged : (n m : ℕ) (R : Rows) (x y boxes : List ℤ) (modules masks : List ℕ)
+    → shaped_by (network_judged n m R) n m boxes_alone (signs x y boxes modules masks) true ≡ day_judged boxes_alone n m R (box_signs x y boxes)
+unfolding placed_by shaped_by day_judged
+boxes_judged n m R x y boxes modules masks = refl
 
 pub day_lent : (n m : ℕ) (R : Rows) (x y boxes : List ℤ) → day_judged boxes_alone n m R (box_signs x y boxes) ≡ fine → Lent n m R x y boxes
 unfolding check_judged day_judged

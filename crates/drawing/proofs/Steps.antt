@@ -6,7 +6,7 @@ use mathlib.Core.List.{List}
 use native.Mathlib.Omega.{arith}
 use native.Mathlib.Numerals.{add-one}
 use lib.ListN.{length, set, get_or}
-use Rattle.walks.specs.Rows.{Rows, is_open, turned}
+use Rattle.walks.specs.Rows.{Rows, is_open, turned, Sound}
 use Rattle.settling.specs.declared.Labels.{Labels}
 use Rattle.settling.specs.Run.{labels_of}
 use Rattle.drawing.specs.Leads.{leads_b, leads_at, lengths_to, leads_to, Marked}
@@ -71,3 +71,16 @@ module _ (K : Kind) (R : Rows) (n m : ℕ) (add : ℕ → K.Entry → K.Entry) w
     drawn = λ h. drawn_then (λ e low high b d i j. j ∙ rw (i, marks.entries e low high) (gathered_next e t _)) (p.drawn h) (q.drawn h);
     kept = λ h. q.kept h ∙ p.kept h;
   }
+
+-- rows of m arcs hold the first k of them
+pub first_arcs : {n m : ℕ} {R : Rows} → Sound n m R → (k : ℕ) → k ≤ m → Sound n k R
+first_arcs s k h = record {
+  nodes_low = s.nodes_low;
+  nodes_high = s.nodes_high;
+  arcs_high = omega (arith, s.arcs_high);
+  tails_long = omega (arith, s.tails_long);
+  heads_long = omega (arith, s.heads_long);
+  weights_long = omega (arith, s.weights_long);
+  closures_long = omega (arith, s.closures_long);
+  arcs = λ e low high. s.arcs e low (omega arith);
+}

@@ -3,7 +3,8 @@ ghost use Rattle.std.specs.Prelude.{◌≡◌, true, ◌≤◌, length};
 ghost use Rattle.geometry.specs.Row.{Shaped};
 ghost use Rattle.walks.specs.Judged.{rows_in};
 ghost use Rattle.passing.specs.Asking.{Lent};
-ghost use Rattle.passing.specs.Lent.{signs_of, keeps_by, RoomBy};
+ghost use Rattle.passing.specs.Lent.{signs_of};
+ghost use Rattle.passing.specs.Sieving.{keeps_by, RoomBy};
 ghost use Rattle.drawing.specs.Drawn.{mark_of};
 ghost use Rattle.drawing.specs.Missed.{misses_by, misses_node, FirstPlace, IsFirst};
 

@@ -3,7 +3,7 @@ ghost use Rattle.std.specs.Prelude.{◌≤◌, length};
 ghost use Rattle.walks.specs.Walk.{kept};
 ghost use Rattle.walks.specs.Rows.{laid};
 ghost use Rattle.walks.specs.Judged.{rows_in};
-ghost use Rattle.passing.specs.Lent.{keeps_by};
+ghost use Rattle.passing.specs.Sieving.{keeps_by};
 ghost use Rattle.search.specs.Paper.{paper};
 ghost use Rattle.search.specs.Says.{Answers};
 

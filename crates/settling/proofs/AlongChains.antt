@@ -1,13 +1,14 @@
 -- Relaxing and looking along a chain of arcs does what doing so along all arcs does.
-use Prim.Native.Nat.{ℕ, ◌+◌}
+use Prim.Native.Nat.{ℕ, zero, suc, ◌+◌}
 use mathlib.Core.Path.{◌≡◌, refl, sym, ap, ◌∙◌}
 use mathlib.Core.Bool.{Bool, true, false}
+use mathlib.Core.List.{List, []}
 use lib.ListN.{get_or}
 use Rattle.walks.specs.Rows.{Rows}
 use Rattle.settling.specs.declared.Labels.{Labels}
-use Rattle.std.specs.Prelude.{Option}
+use Rattle.std.specs.Prelude.{Option, Some, None}
 use Rattle.settling.specs.Labels.{offered}
-use Rattle.settling.specs.Trace.{arc_fits}
+use Rattle.settling.specs.Trace.{arc_fits, into_of, after_into, trace_of}
 use Rattle.settling.proofs.TraceSteps.{Rest, miss, arc_other}
 use Rattle.settling.specs.Settle.{arc_step, relaxed}
 use Rattle.settling.proofs.SettleSteps.{relaxed_next, step_other, step_shut, step_open}
@@ -41,3 +42,23 @@ pub rest_from : (R : Rows) (keep : ℕ → Bool) (L : Labels) (v : ℕ) (whole :
     → From m R.heads v j c → Rest (arc_fits R keep L v) m whole j → Rest (arc_fits R keep L v) m whole c
 rest_from R keep L v whole {m} f rest =
     along (Rest (arc_fits R keep L v) m whole) R.heads v (λ i n r. miss (arc_fits R keep L v) m whole i r (arc_other R keep L v i n)) f rest
+
+-- the trace asks no settled mark
+module _ (R : Rows) (keep : ℕ → Bool) (m : ℕ) (L : Labels) where
+  abbrev unmarked : Labels
+  unmarked = record { length = L.length; arcs = L.arcs; settled = [] }
+
+  into_unmarked : (v : ℕ) → into_of R keep unmarked v m ≡ into_of R keep L v m
+  unfolding into_of arc_fits
+  into_unmarked v = refl
+
+  after_unmarked : {go go' : ℕ → List ℕ → List ℕ} → ((v : ℕ) (row : List ℕ) → go v row ≡ go' v row) → (k : ℕ) (row : List ℕ) (p : Option ℕ)
+      → after_into R keep m unmarked go k row p ≡ after_into R keep m L go' k row p
+  unfolding after_into
+  after_unmarked h k row None = refl
+  after_unmarked h k row (Some e) = h _ _
+
+  pub trace_unmarked : (k v : ℕ) (row : List ℕ) → trace_of R keep m unmarked k v row ≡ trace_of R keep m L k v row
+  unfolding trace_of
+  trace_unmarked zero v row = refl
+  trace_unmarked (suc k) v row = rw (into_unmarked v) (after_unmarked (trace_unmarked k) k row (into_of R keep L v m))

@@ -1,16 +1,28 @@
 -- The order of labels, and a label offered: a law for each branch.
-use Prim.Native.Nat.{ℕ}
+use Prim.Native.Nat.{ℕ, ◌<◌, ◌≤◌}
 use native.Mathlib.Omega.{arith}
 use mathlib.Core.Bool.{Bool, true, false, false≢true}
-use mathlib.Core.Path.{◌≡◌, sym}
+use mathlib.Core.Path.{◌≡◌, sym, ◌∙◌}
 use lib.Dec.{ltb, eqb}
-use borrow.Author.Tests.{ltb-true, ltb-false, eqb-true, eqb-false}
+use borrow.Author.Tests.{lt-ltb, le-ltb, eq-eqb, ne_eqb, ltb-true, ltb-false, eqb-true, eqb-false}
 use Rattle.walks.specs.Order.{Less, NotAfter}
 use Rattle.settling.specs.declared.Labels.{Labels}
 use Rattle.std.proofs.lemmas.Bool.{cond-true, cond-false, cond_both}
 use Rattle.settling.specs.Labels.{before, length_of, arcs_of, labelled, offered}
 
 module _ (l k l' k' : ℕ) where
+  pub before_less : l < l' → before l k l' k' ≡ true
+  unfolding before
+  before_less h = cond-true _ _ _ (lt-ltb l l' h)
+
+  pub before_same : l' ≤ l → l ≡ l' → before l k l' k' ≡ ltb k k'
+  unfolding before
+  before_same h e = cond-false _ _ _ (le-ltb l l' h) ∙ cond-true _ _ _ (eq-eqb l l' e)
+
+  pub before_more : l' ≤ l → (l ≡ l' → ⊥) → before l k l' k' ≡ false
+  unfolding before
+  before_more h e = cond-false _ _ _ (le-ltb l l' h) ∙ cond-false _ _ _ (ne_eqb l l' e)
+
   pub before_true : before l k l' k' ≡ true → Less l k l' k'
   unfolding before
   before_true =

@@ -24,6 +24,10 @@ module _ (l k w l' k' : ℕ) where
   unfolding fits
   fits-yes e = cond-true _ _ _ (eq-eqb _ _ e)
 
+  pub fits_no : (l + w ≡ l' → ⊥) → fits l k w l' k' ≡ false
+  unfolding fits
+  fits_no e = cond-false _ _ _ (ne_eqb _ _ e)
+
 -- ---- A loop that looks for the first: the look from j on is the whole look. How a turn keeps that, or ends it.
 
 module _ (test : ℕ → Bool) (f j : ℕ) where

@@ -4,7 +4,7 @@ use Rattle.walks.specs.Judged.{rows_in}
 use Rattle.settling.specs.declared.Labels.{Labels}
 use Rattle.settling.specs.declared.Outcome.{Outcome}
 use Rattle.settling.specs.declared.task.Task.{Task}
-use Rattle.passing.specs.Lent.{keeps_by}
+use Rattle.passing.specs.Sieving.{keeps_by}
 use Rattle.settling.specs.Run.{run_of, search_of}
 use Rattle.settling.specs.Stage.{Stage}
 use Rattle.settling.specs.Front.{Front}

@@ -1,7 +1,7 @@
 // One node settled.
 ghost use Rattle.frontier.specs.Chain.{Chained};
 ghost use Rattle.walks.specs.Judged.{rows_in};
-ghost use Rattle.passing.specs.Lent.{keeps_by};
+ghost use Rattle.passing.specs.Sieving.{keeps_by};
 ghost use Rattle.settling.specs.Settle.{settle_of};
 ghost use Rattle.settling.specs.Front.{Front, Become};
 ghost use Rattle.settling.specs.Stage.{Ready};

@@ -1,7 +1,7 @@
 // What a run is asked.
 ghost use Rattle.std.specs.Prelude.{◌≤◌};
-ghost use Rattle.passing.specs.Lent.{RoomBy};
-ghost use Rattle.passing.specs.RoomIsFact.{room_prop};
+ghost use Rattle.passing.specs.Sieving.{RoomBy};
+ghost use Rattle.passing.proofs.RoomIsFact.{room_prop};
 
 use passing::Sieve;
 use walks::tracks::Tracks;

@@ -2,7 +2,7 @@
 ghost use Rattle.std.specs.Prelude.{◌≡◌, ◌≤◌, length, IfSome};
 ghost use Rattle.walks.specs.Judged.{rows_in};
 ghost use Rattle.frontier.specs.Chain.{Chained};
-ghost use Rattle.passing.specs.Lent.{keeps_by};
+ghost use Rattle.passing.specs.Sieving.{keeps_by};
 ghost use Rattle.settling.specs.Labels.{arcs_of};
 ghost use Rattle.settling.specs.Trace.{fits, into_of, trace_of};
 
@@ -20,7 +20,7 @@ fn leads(l: u32, k: u32, w: u32, l2: u32, k2: u32) -> bool
 
 // The lowest-numbered arc by which node `v` has its label, if any, among the arcs chained by their heads.
 fn arc_into(labels: &Labels, v: usize, task: Task, chain: &Chain) -> Option<usize>
-    requires { (1 ≤ v) × (v ≤ task.tracks.n) × Chained task.tracks.m task.tracks.heads.now chain.now.first chain.now.next }
+    requires { (1 ≤ v) × (v ≤ 512) × Chained task.tracks.m task.tracks.heads.now chain.now.first chain.now.next }
     ensures into { let T = task.entry.tracks in
         result ≡ into_of (rows_in T) (keeps_by task.entry.sieve T.closures.now) labels.now v T.m }
     ensures within { IfSome result (λ e. (1 ≤ e) × (e ≤ task.entry.tracks.m)) }
@@ -44,7 +44,7 @@ fn arc_into(labels: &Labels, v: usize, task: Task, chain: &Chain) -> Option<usiz
 
 // Writes the route to the task's target, source first, into the first places of `route`; the others keep their contents.
 pub fn trace(labels: &Labels, task: Task, route: &mut [u32])
-    requires { (1 ≤ task.t) × (task.t ≤ task.tracks.n) × (arcs_of labels.now task.t ≤ length route.old) }
+    requires { (1 ≤ task.t) × (task.t ≤ 512) × (arcs_of labels.now task.t ≤ length route.old) }
     ensures { let T = task.entry.tracks in
         let t = task.entry.t in
         route.new ≡ trace_of (rows_in T) (keeps_by task.entry.sieve T.closures.now) T.m labels.now (arcs_of labels.now t) t route.old }

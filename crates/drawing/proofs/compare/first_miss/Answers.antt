@@ -1,7 +1,7 @@
 -- `drawing::compare::first_miss` meets its contract.
 use Rattle.std.proofs.Common.{◌≡◌, ◌+◌, refl, true, false, rules}
 use Rattle.std.proofs.lemmas.Iterator.{first_from_Range}
-use Rattle.passing.specs.Lent.{keeps_by}
+use Rattle.passing.specs.Sieving.{keeps_by}
 use Rattle.drawing.specs.Drawn.{mark_of}
 use Rattle.drawing.specs.Missed.{misses_by}
 use Rattle.drawing.proofs.Steps.{mark-next}

@@ -18,7 +18,7 @@ pub trace-requires : goal.trace-requires
 trace-requires c =
     let T = c.args.task in
     let fits = route-fits T.tracks.sound _ T.s T.t T.source.0 T.source.1 c.args.route.now c.requires.2 c.run-outcome.ensures (not-false _ c.if-not-outcome.false) in
-    (c.requires.0, c.requires.1, fits)
+    (c.requires.0, omega (arith, c.requires.1, T.tracks.sound.nodes_high), fits)
 
 pub returns : goal.returns
 returns c =

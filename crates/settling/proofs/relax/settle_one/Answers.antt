@@ -6,7 +6,7 @@ use lib.ListN.{get_or}
 use Rattle.walks.specs.Judged.{rows_in}
 use Rattle.frontier.specs.Chain.{From}
 use Rattle.settling.specs.Labels.{marked}
-use Rattle.passing.specs.Lent.{keeps_by}
+use Rattle.passing.specs.Sieving.{keeps_by}
 use Rattle.settling.proofs.SettleSteps.{relaxed_none, settle_all}
 use Rattle.settling.proofs.TreeFollows.{front_marked}
 use Rattle.settling.proofs.AlongChains.{relaxed_from, turn_shut, turn_open}

@@ -1,11 +1,10 @@
 -- `settling::trace::arc_into` meets its contract.
 use Prim.Native.Nat.{◌+◌}
-use native.Mathlib.Omega.{arith}
 use mathlib.Core.Path.{sym, ◌∙◌}
 use lib.ListN.{get_or}
 use Rattle.walks.specs.Judged.{rows_in}
 use Rattle.frontier.specs.Chain.{From}
-use Rattle.passing.specs.Lent.{keeps_by}
+use Rattle.passing.specs.Sieving.{keeps_by}
 use Rattle.settling.specs.Trace.{into_of}
 use Rattle.settling.proofs.TraceSteps.{hit, miss, over, into_whole, arc_shut, arc_fits_lem}
 use Rattle.settling.proofs.AlongChains.{rest_from}
@@ -19,7 +18,7 @@ loop-j-init c =
     let R = rows_in T in
     let K = keeps_by a.task.sieve T.closures.now in
     let L = a.labels.now in
-    let f = c.requires.2.firsts a.v c.requires.0 (omega (arith, c.requires.1, T.sound.nodes_high)) in
+    let f = c.requires.2.firsts a.v c.requires.0 c.requires.1 in
     (rest_from R K L a.v (into_of R K L a.v T.m) f (into_whole R K L a.v T.m), f.high, f.holds)
 
 pub returns-then-leads-clause-into : goal.returns-then-leads-clause-into

@@ -4,7 +4,7 @@ use Prim.Native.Nat.{◌-◌, ◌<◌, ◌≤◌}
 use mathlib.Core.Path.{◌≡◌}
 use lib.ListN.{get_or}
 use Rattle.walks.specs.Judged.{rows_in}
-use Rattle.passing.specs.Lent.{keeps_by}
+use Rattle.passing.specs.Sieving.{keeps_by}
 use Rattle.settling.specs.Trace.{arc_fits, into_of}
 use Rattle.settling.proofs.TraceSteps.{Rest}
 use Rattle.settling.proofs.trace.arc_into.Given as goal

@@ -3,7 +3,7 @@ use Prim.Native.Nat.{◌+◌, ◌-◌}
 use native.Mathlib.Omega.{arith}
 use mathlib.Core.Path.{◌≡◌, sym, ◌∙◌}
 use Rattle.settling.proofs.TraceSteps.{trace_over, trace_stuck, trace_on}
-use Rattle.settling.proofs.Widen.{heads_ends}
+use Rattle.settling.proofs.Widen.{widened, heads_ends}
 use Rattle.settling.proofs.trace.trace.Goals as goal
 
 pub link-chain-requires : goal.link-chain-requires
@@ -20,7 +20,7 @@ loop-k-preserved c =
     let i = c.loop-k in
     let h = c.in-Some.ensures.within in
     let z : i.k - 1 + 1 ≡ i.k = omega (arith, c.loop-k-test.true) in
-    let s = c.args.task.tracks.sound.arcs c.in-Some.e h.0 h.1 in
+    let s = (widened c.args.task.tracks.sound).arcs c.in-Some.e h.0 h.1 in
     (s.tail_low, s.tail_high, sym (trace_on _ _ _ _ i.v i.route (i.k - 1) c.in-Some.e (sym c.in-Some.ensures.into)) ∙ rw z i.invariant.2)
 
 pub returns : goal.returns
