@@ -1,10 +1,12 @@
 -- The digits that io writes are the definition's, and how many there are.
 use Prim.Native.Nat.{ℕ, zero, suc, ◌-◌, ◌*◌, ◌/◌, ◌%◌, ◌^◌, ◌≤◌, ◌<◌}
-use mathlib.Core.Path.{◌≡◌}
-use mathlib.Core.List.{◌∷◌}
+use mathlib.Core.Path.{◌≡◌, sym, ap, ◌∙◌}
+use mathlib.Core.List.{List, ◌∷◌}
 use native.Mathlib.Omega.{arith}
-use native.Mathlib.Nat.{mod-eq_of_lt, one-le-pow, pow-suc, not-suc-le-zero}
-use lib.ListN.{length}
+use native.Mathlib.Decide.{dec_le}
+use native.Mathlib.Nat.{pow-le-pow_right, mod-eq_of_lt, one-le-pow, pow-suc, not-suc-le-zero}
+use lib.ListN.{length, take}
+use lib.Seq.{length-take-le}
 use mir.Syntax.{w32}
 use mir.Val.{SFits}
 use lib.IntN.{ℤ, pos, negsuc, nat_abs}
@@ -30,6 +32,17 @@ digits_decimal (suc (suc k)) n x =
     let digit : n % 10 < 10 = omega arith in
     let rest = digits_decimal (suc k) (n / 10) (omega arith, omega (arith, x.1), λ _. rw e₂ (omega arith)) in
     simp (lt-ltb (n % 10) 10 digit, rest, decimal_more n (omega arith))
+
+-- a number of 64 bits has at most 20 digits
+pub few_digits : (n k : ℕ) → n < 2 ^ 64 → IsDigitCount 10 1 n k → k ≤ 20
+few_digits n k h x = elim (dec_le k 20) [ yes p ↦ p | no p ↦ absurd (many p) ]
+  where
+    many : (k ≤ 20 → ⊥) → ⊥
+    many p = let e : 10 ^ 20 ≤ 10 ^ (k - 1) = pow-le-pow_right {n = 10} (omega arith) {i = 20} {j = k - 1} (omega (arith, p)) in omega (arith, h, e, x.2 (omega (arith, p)))
+
+-- how many they are
+pub digits_length : (k n : ℕ) (out : List ℕ) → k ≤ length out → take k out ≡ last_digits 10 k n → IsDigitCount 10 1 n k → k ≡ length (decimal n)
+digits_length k n out h e x = sym (length-take-le k out h) ∙ ap (λ (t : List ℕ). length t) (e ∙ digits_decimal k n x)
 
 -- a number with its sign, from its size
 pub whole_minus : (z : ℤ) (size : ℕ) → lt_z z (pos 0) ≡ true → size ≡ nat_abs z → 45 ∷ decimal size ≡ whole z

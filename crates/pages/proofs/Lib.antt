@@ -1,2 +1,4 @@
 pub mod DecimalLaws
 pub mod SpacedLaws
+pub mod Signed
+pub mod FrontLaws

@@ -1,5 +1,6 @@
 // Numbers on a page.
-ghost use Rattle.std.specs.Prelude.{◌≡◌, ◌++◌, ◌+◌, ◌*◌, ◌≤◌, List, ℕ, length};
+ghost use Rattle.std.specs.Prelude.{◌≡◌, ◌++◌, ◌+◌, ◌*◌, ◌≤◌, List, ℕ, length, take};
+ghost use Rattle.std.proofs.Common.{rules};
 ghost use Rattle.pages.specs.Page.{Puts};
 ghost use Rattle.pages.specs.Spaced.{spaced};
 ghost use Rattle.scan.specs.Decimal.{decimal, whole};
@@ -13,10 +14,35 @@ pub trait Number: Copy {
 
     ghost most: { ℕ };
 
+    // Puts the number at the front of bytes, and answers how many it takes.
+    fn spell_into(self, bytes: &mut [u8]) -> usize
+        requires { most ≤ length bytes.old }
+        ensures spelt { take result bytes.new ≡ spelt self }
+        ensures upper_bound { result ≡ length (spelt self) × (length (spelt self) ≤ most) };
+
     // The number on a page of its own.
-    fn spell(self) -> Page<20>
+    final fn spell(self) -> Page<20>
         ensures spelt { result ≡ spelt self }
-        ensures upper_bound { length (spelt self) ≤ most };
+        ensures upper_bound { length (spelt self) ≤ most }
+    {
+        let mut bytes = [0; 20];
+        let end = self.spell_into(&mut bytes[..]);
+        Page { bytes, end }
+    }
+
+    ghost short: { most ≤ 20 };
+}
+
+// Puts a number's digits at the front of bytes, and answers how many they are.
+fn put_digits(n: u64, bytes: &mut [u8]) -> usize
+    requires { length (decimal n) ≤ length bytes.old }
+    ensures spelt { take result bytes.new ≡ decimal n }
+    ensures upper_bound { result ≡ length (decimal n) }
+{
+    let mut digits = [0; 20];
+    let end = io::decimal(n, &mut digits);
+    bytes[..end].copy_from_slice(&digits[..end]);
+    end
 }
 
 impl Number for u64 {
@@ -24,10 +50,10 @@ impl Number for u64 {
 
     ghost most = { 20 };
 
-    fn spell(self) -> Page<20> {
-        let mut bytes = [0; 20];
-        let end = io::decimal(self, &mut bytes);
-        Page { bytes, end }
+    ghost short = { Prim.search rules };
+
+    fn spell_into(self, bytes: &mut [u8]) -> usize {
+        put_digits(self, bytes)
     }
 }
 
@@ -36,8 +62,10 @@ impl Number for u32 {
 
     ghost most = { 10 };
 
-    fn spell(self) -> Page<20> {
-        (self as u64).spell()
+    ghost short = { Prim.search rules };
+
+    fn spell_into(self, bytes: &mut [u8]) -> usize {
+        put_digits(self as u64, bytes)
     }
 }
 
@@ -46,8 +74,10 @@ impl Number for u8 {
 
     ghost most = { 3 };
 
-    fn spell(self) -> Page<20> {
-        (self as u64).spell()
+    ghost short = { Prim.search rules };
+
+    fn spell_into(self, bytes: &mut [u8]) -> usize {
+        put_digits(self as u64, bytes)
     }
 }
 
@@ -56,14 +86,15 @@ impl Number for i32 {
 
     ghost most = { 11 };
 
-    fn spell(self) -> Page<20> {
-        let size = self.unsigned_abs();
+    ghost short = { Prim.search rules };
+
+    fn spell_into(self, bytes: &mut [u8]) -> usize {
+        let size = self.unsigned_abs() as u64;
         if self < 0 {
-            let mut page = Page::new();
-            page.put_after(b"-", size);
-            return page;
+            bytes[0] = b'-';
+            return 1 + put_digits(size, &mut bytes[1..]);
         }
-        size.spell()
+        put_digits(size, bytes)
     }
 }
 
@@ -74,7 +105,9 @@ impl<const N: usize> Page<N> {
         ensures puts { Puts (T.spelt n) self.old self.new }
         ensures upper_bound { length self.new ≤ length self.old + T.most }
     {
-        self.put(n.spell().text());
+        let whole = &mut self.bytes[..];
+        let end = self.end + n.spell_into(&mut whole[self.end..]);
+        self.end = end;
     }
 
     // Puts bytes, and a number after them.

@@ -2,20 +2,20 @@
 use Prim.Native.Nat.{ℕ, suc, ◌-◌, ◌≤◌, ◌<◌}
 use mathlib.Core.Path.{◌≡◌, refl, ap}
 use mathlib.Core.Bool.{true, ◌&&◌}
-use mathlib.Core.List.{List}
+use mathlib.Core.List.{List, ◌++◌}
 use native.Mathlib.Omega.{arith}
 use Rattle.std.specs.Prelude.{Result, Ok, Err}
 use lib.Dec.{leb}
 use lib.IntN.{ℤ, pos}
 use lib.Signed.{◌≤ℤ◌, le_z, le_z_yes}
-use lib.ListN.{length, get_or}
-use borrow.Author.Tests.{leb-true}
+use lib.ListN.{length, drop, get_or}
+use borrow.Author.Tests.{le-leb, lt-leb, leb-true}
 use Rattle.rules.specs.Limits.{least_coordinate, most_coordinate}
 use Rattle.rules.specs.Judging.{Judged, fine, or_else, passes}
 use Rattle.rules.proofs.AndLaws.{and_true}
 use Rattle.rules.proofs.JudgingLaws.{both_fine, nothing_follows, passed, each_passes}
 use Rattle.rules.specs.declared.Refusal.{Refusal}
-use Rattle.rules.specs.declared.Refusal.TheVariants.{BeyondLimits, BadCoordinate}
+use Rattle.rules.specs.declared.Refusal.TheVariants.{RowTooShort, BeyondLimits, BadCoordinate}
 use Rattle.geometry.specs.Box.{within_b}
 use Rattle.walks.specs.Rows.{Rows, Sound, SoundArc}
 use Rattle.dimacs.specs.Accepted.{GrLimits, CoLimits}
@@ -24,6 +24,15 @@ use Rattle.judging.specs.Order.{lengths, good_place, coordinates, arcs_judged}
 use Rattle.writing.specs.Text.{gr_text, co_text}
 use Rattle.writing.specs.Writes.{gr_write_judged, places_judged, co_write_judged, Writes}
 use Rattle.writing.proofs.LengthLaws.{gr_most, co_most}
+
+-- ---- bytes that are handed over
+
+module _ (bytes row : List ℕ) where
+  pub not_handed : length row < length bytes → Writes (lengths (leb (length bytes) (length row))) bytes row (Err RowTooShort) row
+  not_handed h = rw (lt-leb _ _ h) (record { reply = refl; left = refl })
+
+  pub handed : (r : ℕ) (after : List ℕ) → length bytes ≤ length row → r ≡ length bytes → after ≡ bytes ++ drop (length bytes) row → Writes (lengths (leb (length bytes) (length row))) bytes row (Ok r) after
+  handed r after h e p = rw (le-leb _ _ h, e) (record { reply = refl; left = p })
 
 -- ---- judgements in parts
 

@@ -12,8 +12,9 @@ ghost use Rattle.writing.specs.Writes.{places_judged, Writes, GrWrites, CoWrites
 use judging::network::judge_arc_rows;
 use judging::places::judge_places;
 use judging::sizes::{judge_lengths, unless};
+use pages::Page;
 use rules::Refusal;
-use texts::{co_page, gr_page};
+use texts::{put_network, put_places};
 use walks::Network;
 
 // Bytes go to the front of a row, if they fit.
@@ -47,7 +48,9 @@ pub fn write_gr(
         closures: &[],
     };
     judge_arc_rows(net, true)?;
-    hand_over(gr_page(net).text(), text)
+    let mut page = Page::new();
+    put_network(&mut page, net);
+    hand_over(page.text(), text)
 }
 
 // Coordinates without a network: 5 for n, 2, 9.
@@ -69,5 +72,7 @@ pub fn write_co(n: u32, x: &[i32], y: &[i32], text: &mut [u8]) -> Result<usize, 
     ensures { CoWrites n x.now y.now text.old result text.new }
 {
     judge_coordinates(n, x, y)?;
-    hand_over(co_page(n, x, y).text(), text)
+    let mut page = Page::new();
+    put_places(&mut page, n, x, y);
+    hand_over(page.text(), text)
 }

@@ -7,30 +7,28 @@ use crate::lines::{ROOM, put_arc_line, put_graph_line, put_node_line, put_places
 use pages::Page;
 use walks::Network;
 
-// The text of a network.
-pub fn gr_page(net: Network) -> Page<ROOM>
+// The text of a network, in the place of what stood on the page.
+pub fn put_network(page: &mut Page<ROOM>, net: Network)
     requires m_in_bounds { (net.m ≤ length net.tails.now) × (net.m ≤ length net.heads.now) × (net.m ≤ length net.weights.now) }
     requires text_fits { length (gr_text net.n net.m (rows_of net)) ≤ 36878 }
-    ensures { result ≡ gr_text net.entry.n net.entry.m (rows_of net.entry) }
+    ensures { page.new ≡ gr_text net.entry.n net.entry.m (rows_of net.entry) }
 {
-    let mut page = Page::new();
-    put_graph_line(&mut page, net.n, net.m);
+    page.clear();
+    put_graph_line(page, net.n, net.m);
     for i in 0..net.m as usize {
-        put_arc_line(&mut page, net.tails[i], net.heads[i], net.weights[i]);
+        put_arc_line(page, net.tails[i], net.heads[i], net.weights[i]);
     }
-    page
 }
 
-// The text of the coordinates.
-pub fn co_page(n: u32, x: &[i32], y: &[i32]) -> Page<ROOM>
+// The text of the coordinates, in the place of what stood on the page.
+pub fn put_places(page: &mut Page<ROOM>, n: u32, x: &[i32], y: &[i32])
     requires n_in_bounds { (n ≤ length x.now) × (n ≤ length y.now) }
     requires text_fits { length (co_text n x.now y.now) ≤ 36878 }
-    ensures { result ≡ co_text n x.now y.now }
+    ensures { page.new ≡ co_text n x.now y.now }
 {
-    let mut page = Page::new();
-    put_places_line(&mut page, n);
+    page.clear();
+    put_places_line(page, n);
     for i in 0..n {
-        put_node_line(&mut page, i + 1, x[i as usize], y[i as usize]);
+        put_node_line(page, i + 1, x[i as usize], y[i as usize]);
     }
-    page
 }

@@ -9,9 +9,9 @@ returns-in_err-judge_coordinates c =
     let p = err_from_is_err_and c.from_residual.result c.from_residual.ensures.1 in
     writes_out _ _ _ _ _ (co_judged _ _ _ _) (sym c.in_err-judge_coordinates.ensures) (rw p.2 at p.1)
 
-pub co_page-requires : goal.co_page-requires
-co_page-requires c = let f = co_fine _ _ _ (sym c.in_ok-judge_coordinates.ensures) in record { n_in_bounds = (f.0, f.1); text_fits = f.2 }
+pub put_places-requires : goal.put_places-requires
+put_places-requires c = let f = co_fine _ _ _ (sym c.in_ok-judge_coordinates.ensures) in record { n_in_bounds = (f.0, f.1); text_fits = f.2 }
 
 pub returns : goal.returns
 returns c =
-    writes_on _ _ _ _ _ _ _ (co_judged _ _ _ _) (sym c.in_ok-judge_coordinates.ensures) (rw (c.text.ensures.text, c.co_page.ensures) at c.hand_over.ensures)
+    writes_on _ _ _ _ _ _ _ (co_judged _ _ _ _) (sym c.in_ok-judge_coordinates.ensures) (rw (c.text.ensures.text, c.put_places.ensures) at c.hand_over.ensures)

@@ -1,15 +1,15 @@
--- `writing::texts::gr_page` meets its contract.
+-- `writing::texts::put_network` meets its contract.
 use Prim.Native.Nat.{◌+◌, ◌-◌}
 use mathlib.Core.Path.{◌≡◌}
 use native.Mathlib.Omega.{arith}
 use Rattle.scan.specs.Written.{listed}
 use Rattle.writing.specs.Text.{gr_text}
 use Rattle.writing.proofs.LinesLaws.{lines_room, lines_more}
-use Rattle.writing.proofs.texts.gr_page.Goals as goal
+use Rattle.writing.proofs.texts.put_network.Goals as goal
 
 pub loop-i-init : goal.loop-i-init
 unfolding listed
-loop-i-init c = rw c.new-page.ensures at c.put_graph_line.ensures
+loop-i-init c = rw c.clear.ensures at c.put_graph_line.ensures
 
 pub put_arc_line-requires : goal.put_arc_line-requires
 unfolding gr_text

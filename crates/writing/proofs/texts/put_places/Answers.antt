@@ -1,4 +1,4 @@
--- `writing::texts::co_page` meets its contract.
+-- `writing::texts::put_places` meets its contract.
 use Prim.Native.Nat.{◌+◌, ◌-◌}
 use mathlib.Core.Path.{◌≡◌}
 use native.Mathlib.Omega.{arith}
@@ -10,11 +10,11 @@ use borrow.Author.Rules.{rules}
 use Rattle.scan.specs.Written.{listed}
 use Rattle.writing.specs.Text.{co_text}
 use Rattle.writing.proofs.LinesLaws.{lines_room, lines_more}
-use Rattle.writing.proofs.texts.co_page.Goals as goal
+use Rattle.writing.proofs.texts.put_places.Goals as goal
 
 pub loop-i-init : goal.loop-i-init
 unfolding listed
-loop-i-init c = rw c.new-page.ensures at c.put_places_line.ensures
+loop-i-init c = rw c.clear.ensures at c.put_places_line.ensures
 
 pub put_node_line-requires : goal.put_node_line-requires
 unfolding co_text
