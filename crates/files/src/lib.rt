@@ -1,8 +1,8 @@
 // Reading a file.
 #![tactic(auto)]
 
-ghost use Rattle.std.specs.Prelude.{length};
-ghost use Rattle.files.specs.File.{Within};
+ghost use Rattle.std.specs.Prelude.{◌≡◌, length};
+ghost use Rattle.files.specs.File.{Within, held_in, held_of};
 
 use std::io::Read;
 use std::rt::Files;
@@ -32,4 +32,12 @@ pub fn read_file(rt: &impl Files, path: &[u8], text: &mut [u8]) -> Option<usize>
     let name = str::from_utf8(path).ok()?;
     let mut file = fs::open(rt, name).ok()?;
     read_on(&mut file, text)
+}
+
+// What was read of a file into a text: its first bytes, as many as were read.
+pub fn contents(text: &[u8], read: Option<usize>) -> Option<&[u8]>
+    requires { Within (length text.now) read }
+    ensures { held_of result ≡ held_in text.now read }
+{
+    read.map(|bytes| &text[..bytes])
 }

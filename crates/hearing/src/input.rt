@@ -2,11 +2,11 @@
 ghost use Rattle.std.specs.Prelude.{◌≤◌};
 
 // The chunk that was read last: where the next byte stands in it, and where it ends.
-#[derive(Drop)]
+#[derive(Clone, Copy)]
 pub struct Input {
-    pub(crate) chunk: [u8; 4096],
-    pub(crate) at: usize,
-    pub(crate) end: usize,
+    pub chunk: [u8; 4096],
+    pub at: usize,
+    pub end: usize,
     ghost at_bound: { at ≤ end },
     ghost end_bound: { end ≤ 4096 },
 }

@@ -1,12 +1,13 @@
 // A day's list on a plan with its boxes.
-ghost use Rattle.std.specs.Prelude.{◌≤◌, OnOk};
-ghost use Rattle.files.specs.File.{held_of};
+ghost use Rattle.std.specs.Prelude.{◌≤◌, length, OnOk};
+ghost use Rattle.files.specs.File.{Within, held_in, held_of};
 ghost use Rattle.loading.specs.Loading.{plan_of};
 ghost use Rattle.journeys.specs.Prints.{PrintsDay};
 ghost use Rattle.journeys.specs.Steps.{Runs};
 
 use daylist::{Totals, answer_all};
 use dimacs::read_p2p;
+use files::contents;
 use listing::journeys::{put_journeys, put_totals};
 use loading::{Plan, Trouble, put_trouble};
 use pages::{PAGE, Page};
@@ -46,9 +47,10 @@ impl Journeys {
     }
 }
 
-// What is printed of a day's list.
-pub fn list_day(page: &mut Page<PAGE>, plan: &Plan, day: Option<&[u8]>)
-    ensures { PrintsDay (plan_of plan.now) (held_of day.entry) page.new }
+// What is printed of a day's list, of what was read of it.
+pub fn list_day(page: &mut Page<PAGE>, plan: &Plan, text: &[u8], day: Option<usize>)
+    requires { Within (length text.now) day }
+    ensures { PrintsDay (plan_of plan.now) (held_in text.now day) page.new }
 {
     let mut journeys = Journeys {
         count: 0,
@@ -56,7 +58,7 @@ pub fn list_day(page: &mut Page<PAGE>, plan: &Plan, day: Option<&[u8]>)
         targets: [0; 256],
         lengths: [0; 256],
     };
-    match journeys.run(plan, day) {
+    match journeys.run(plan, contents(text, day)) {
         Ok(totals) => {
             put_journeys(
                 page,

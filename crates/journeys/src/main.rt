@@ -3,23 +3,33 @@
 
 mod day;
 
-ghost use Rattle.files.specs.File.{held_of};
+ghost use Rattle.std.specs.Prelude.{length};
+ghost use Rattle.files.specs.File.{Within, held_in};
 ghost use Rattle.journeys.specs.Prints.{Prints};
 
 use day::list_day;
-use files::read_file;
+use files::{contents, read_file};
 use loading::{Plan, Unusable, put_trouble, read_places};
 use pages::{PAGE, Page};
 use printing::out;
 use std::io;
 
 // What is printed, of what was read of the three files.
-fn list(page: &mut Page<PAGE>, gr: Option<&[u8]>, co: Option<&[u8]>, day: Option<&[u8]>)
-    ensures { Prints (held_of gr.entry) (held_of co.entry) (held_of day.entry) page.new }
+fn list(
+    page: &mut Page<PAGE>,
+    gr: &[u8],
+    graph: Option<usize>,
+    co: &[u8],
+    places: Option<usize>,
+    text: &[u8],
+    day: Option<usize>,
+)
+    requires { Within (length gr.now) graph × Within (length co.now) places × Within (length text.now) day }
+    ensures { Prints (held_in gr.now graph) (held_in co.now places) (held_in text.now day) page.new }
 {
     let mut plan = Plan::blank();
-    match plan.load(gr, co) {
-        Ok(()) => list_day(page, &plan, day),
+    match plan.load(contents(gr, graph), contents(co, places)) {
+        Ok(()) => list_day(page, &plan, text, day),
         // a match of its own, since a proof has no name for what a pattern within a pattern binds
         Err(unusable) => match unusable {
             Unusable::Graph(trouble) => put_trouble(page, trouble, b" net.gr\n"),
@@ -31,14 +41,11 @@ fn list(page: &mut Page<PAGE>, gr: Option<&[u8]>, co: Option<&[u8]>, day: Option
 fn main(rt: HostRuntime) -> io::Result<()> {
     let mut gr = [0; 65537];
     let graph = read_file(&rt, b"net.gr", &mut gr);
-    let graph = graph.map(|n| &gr[..n]);
     let mut co = [0; 65537];
-    let places = read_places(&rt, graph, &mut co);
-    let places = places.map(|n| &co[..n]);
+    let places = read_places(&rt, contents(&gr, graph), &mut co);
     let mut text = [0; 65537];
     let day = read_file(&rt, b"day.p2p", &mut text);
-    let day = day.map(|n| &text[..n]);
     let mut page = Page::new();
-    list(&mut page, graph, places, day);
+    list(&mut page, &gr, graph, &co, places, &text, day);
     out(&rt, &page)
 }

@@ -6,6 +6,8 @@ use Rattle.rules.specs.declared.Refusal.{Refusal}
 use Rattle.rules.specs.declared.Sizes.{Sizes}
 use Rattle.scan.specs.Ascii.{bytes}
 use Rattle.walks.specs.Rows.{Rows, rows}
+use Rattle.walks.specs.Lent.{rows_of}
+use Rattle.walks.specs.declared.Network.{Network}
 use Rattle.files.specs.File.{Held, text, unread}
 use Rattle.wording.specs.Refusals.{place_text}
 use Rattle.dimacs.specs.Texts.{Outcome, read, refused}
@@ -36,6 +38,10 @@ plan s R x y b = record { sizes = s; arcs = R; x = x; y = y; boxes = b }
 
 abbrev pub plan_of : PlanLent → Plan
 plan_of p = plan p.sizes (rows p.tails p.heads p.weights p.closures) p.x p.y p.boxes
+
+-- a plan on a network that is lent
+abbrev pub plan_on : Network → List ℤ → List ℤ → List ℤ → Plan
+plan_on N x y b = plan (record { n = N.n; m = N.m }) (rows_of N) x y b
 
 -- the rows of a blank plan hold zeros
 abbrev pub arc_row : List ℕ

@@ -6,10 +6,12 @@ mod trouble;
 
 ghost use Rattle.std.specs.Prelude.{◌≤◌, ◌≡◌, length, OnOk};
 ghost use Rattle.walks.specs.Lent.{rows_of};
+ghost use Rattle.walks.specs.Rows.{rows};
 ghost use Rattle.files.specs.File.{Within, held_of};
-ghost use Rattle.loading.specs.Loading.{blank, plan_of, Loads, is_graph};
+ghost use Rattle.loading.specs.Loading.{blank, plan, plan_of, Loads, is_graph};
 
 use files::read_file;
+use reading::{graph_into, places_into};
 use rules::Sizes;
 use std::rt::Files;
 pub use trouble::{Trouble, Unusable, put_trouble};
@@ -66,9 +68,47 @@ impl Plan {
         ensures loads { Loads (plan_of self.old) (held_of gr.entry) (held_of co.entry) result (plan_of self.new) }
         ensures small { OnOk result (self.new.sizes.m ≤ 2048) }
     {
-        self.read_graph(gr).map_err(Unusable::Graph)?;
-        self.read_places(co).map_err(Unusable::Places)
+        load(
+            gr,
+            co,
+            &mut self.sizes,
+            &mut self.tails,
+            &mut self.heads,
+            &mut self.weights,
+            &mut self.closures,
+            &mut self.x,
+            &mut self.y,
+            &mut self.boxes,
+        )
     }
+}
+
+// Fills rows that are lent, of any lengths, from what was read of the two files. A row that is too short is told in the answer.
+pub fn load(
+    gr: Option<&[u8]>,
+    co: Option<&[u8]>,
+    sizes: &mut Sizes,
+    tails: &mut [u32],
+    heads: &mut [u32],
+    weights: &mut [u32],
+    closures: &mut [u8],
+    x: &mut [i32],
+    y: &mut [i32],
+    boxes: &mut [i32],
+) -> Result<(), Unusable>
+    ensures loads { Loads (plan sizes.old (rows tails.old heads.old weights.old closures.old) x.old y.old boxes.old) (held_of gr.entry) (held_of co.entry) result (plan sizes.new (rows tails.new heads.new weights.new closures.new) x.new y.new boxes.new) }
+    ensures small { OnOk result (sizes.new.m ≤ 2048) }
+{
+    graph_into(gr, sizes, tails, heads, weights, closures).map_err(Unusable::Graph)?;
+    let net = Network {
+        n: sizes.n,
+        m: sizes.m,
+        tails,
+        heads,
+        weights,
+        closures,
+    };
+    places_into(co, net, x, y, boxes).map_err(Unusable::Places)
 }
 
 // Whether what was read of `net.gr` is a graph.

@@ -2,7 +2,7 @@
 #![tactic(auto)]
 
 ghost use Rattle.std.specs.Prelude.{◌≤◌, length};
-ghost use Rattle.files.specs.File.{held_of};
+ghost use Rattle.files.specs.File.{Within, held_in};
 ghost use Rattle.desk.specs.Requests.{Meets, Reads, HasRead};
 
 use commands::Request;
@@ -10,7 +10,7 @@ use commands::verbs::Reading;
 use commands::words::after_word;
 use copies::call_on;
 use days::day;
-use files::read_file;
+use files::{contents, read_file};
 use lending::Desk;
 use pages::{PAGE, Page};
 use plans::reading::{graph, places};
@@ -40,10 +40,18 @@ pub fn meet(page: &mut Page<PAGE>, desk: &mut Desk, request: Request)
 }
 
 // What was read of a file goes into the rows.
-fn read_in(page: &mut Page<PAGE>, desk: &mut Desk, reading: Reading, text: Option<&[u8]>)
-    ensures reads { Reads (held_of text.entry) desk.old reading page.new desk.new }
+fn read_in(
+    page: &mut Page<PAGE>,
+    desk: &mut Desk,
+    reading: Reading,
+    text: &[u8],
+    file: Option<usize>,
+)
+    requires { Within (length text.now) file }
+    ensures reads { Reads (held_in text.now file) desk.old reading page.new desk.new }
     ensures few { length page.new ≤ 1000 }
 {
+    let text = contents(text, file);
     match reading {
         Reading::Gr => graph(page, desk, text),
         Reading::Co => places(page, desk, text),
@@ -57,9 +65,6 @@ pub fn read(rt: &impl Files, page: &mut Page<PAGE>, desk: &mut Desk, line: &[u8]
     ensures few { length page.new ≤ 1000 }
 {
     let mut text = [0; 65537];
-    let read = match read_file(rt, after_word(line), &mut text) {
-        Some(bytes) => Some(&text[..bytes]),
-        None => None,
-    };
-    read_in(page, desk, reading, read);
+    let file = read_file(rt, after_word(line), &mut text);
+    read_in(page, desk, reading, &text, file);
 }

@@ -3,7 +3,7 @@
 
 mod show;
 
-use files::read_file;
+use files::{contents, read_file};
 use printing::{number, text};
 use show::{coordinates_of, graph_of};
 use std::io;
@@ -15,8 +15,8 @@ fn graph(rt: &(impl Files + Print), name: &[u8]) -> io::Result<()> {
     text(rt, name)?;
     text(rt, b"\n")?;
     let mut bytes = [0u8; 65537];
-    let n = read_file(rt, name, &mut bytes).unwrap_or(0);
-    graph_of(rt, &bytes[..n])
+    let read = read_file(rt, name, &mut bytes);
+    graph_of(rt, contents(&bytes, read).unwrap_or(b""))
 }
 
 // A coordinate file for so many nodes: its name, and the reply.
@@ -27,8 +27,8 @@ fn coordinates(rt: &(impl Files + Print), name: &[u8], nodes: u32) -> io::Result
     number(rt, nodes)?;
     text(rt, b"\n")?;
     let mut bytes = [0u8; 65537];
-    let n = read_file(rt, name, &mut bytes).unwrap_or(0);
-    coordinates_of(rt, &bytes[..n], nodes)
+    let read = read_file(rt, name, &mut bytes);
+    coordinates_of(rt, contents(&bytes, read).unwrap_or(b""), nodes)
 }
 
 // The worked files, and the paper's lines that are refused.

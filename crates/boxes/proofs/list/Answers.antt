@@ -19,17 +19,17 @@ returns-in-Ok c =
     let tails = ap (λ (R : Rows). R.tails) c.network.ensures.rows in
     let heads = ap (λ (R : Rows). R.heads) c.network.ensures.rows in
     let weights = ap (λ (R : Rows). R.weights) c.network.ensures.rows in
-    let loads = rw c.blank-plan.ensures at c.in-Ok.ensures.loads in
+    let loads = rw (c.blank-plan.ensures, c.contents.ensures, c.contents-2.ensures) at c.in-Ok.ensures.loads in
     rw (c.put_listing.ensures, tails, heads, weights, m) (listed loads)
 
 pub returns-in-Graph : goal.returns-in-Graph
 unfolding bytes
 returns-in-Graph c =
-    let loads = rw (c.blank-plan.ensures, c.in-Graph.is) at c.in-Err.ensures.loads in
+    let loads = rw (c.blank-plan.ensures, c.in-Graph.is, c.contents.ensures, c.contents-2.ensures) at c.in-Err.ensures.loads in
     rw c.put_trouble.ensures.text (graph loads)
 
 pub returns-in-Places : goal.returns-in-Places
 unfolding bytes
 returns-in-Places c =
-    let loads = rw (c.blank-plan.ensures, c.in-Places.is) at c.in-Err.ensures.loads in
+    let loads = rw (c.blank-plan.ensures, c.in-Places.is, c.contents.ensures, c.contents-2.ensures) at c.in-Err.ensures.loads in
     rw c.put_trouble-in-Places.ensures.text (places loads)

@@ -1,9 +1,9 @@
--- `loading::Plan::read_places` meets its contract.
+-- `loading::reading::places_into` meets its contract.
 use Rattle.std.proofs.lemmas.Result.{err_from_is_err_and}
 use Rattle.std.specs.Prelude.{Ok, Err}
 use Rattle.loading.specs.Loading.{places_unread, places_refused, built}
 use Rattle.loading.proofs.LoadingLaws.{not_read}
-use Rattle.loading.proofs.Plan.read_places.Goals as goal
+use Rattle.loading.proofs.reading.places_into.Goals as goal
 
 pub returns-in_err-text : goal.returns-in_err-text
 returns-in_err-text c =
