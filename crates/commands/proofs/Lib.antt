@@ -1,3 +1,5 @@
 pub mod NumberLaws
 pub mod WordLaws
+pub mod NameLaws
+pub mod CommandLaws
 mod TableLaws

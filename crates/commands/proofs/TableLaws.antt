@@ -5,6 +5,7 @@ use mathlib.Core.List.{List, [], ◌∷◌, map}
 use mathlib.Core.Bool.{Bool, true, not, ◌&&◌, ◌||◌}
 use lib.Dec.{eqb, leb}
 use Rattle.std.proofs.Common.{Some}
+use Rattle.std.specs.Prelude.{codes}
 use Rattle.commands.specs.Rows.{stretch_of, all_rows, name_of, is_called, row_of}
 use Rattle.commands.specs.declared.rows.Row.{Row}
 use Rattle.commands.specs.declared.rows.Kind.{Kind}
@@ -32,6 +33,11 @@ all_apart (r ∷ more) = each (λ (t : Row). apart (stretch_of r) (stretch_of t)
 -- the test, over the whole table
 pub table_apart : all_apart all_rows ≡ true
 table_apart = refl
+
+-- the names, one by one
+pub row_names_lem : map name_of all_rows ≡ codes "tails" ∷ codes "heads" ∷ codes "weights" ∷ codes "x" ∷ codes "y" ∷ codes "boxes" ∷ codes "route" ∷ codes "text" ∷ codes "closed" ∷ codes "answers" ∷ []
+unfolding name_of
+row_names_lem = refl
 
 pub rows_named : map (λ (r : Row). row_of (name_of r)) all_rows ≡ map Some all_rows
 unfolding name_of is_called

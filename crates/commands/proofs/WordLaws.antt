@@ -1,5 +1,5 @@
 -- Laws of the words of a line.
-use Rattle.std.proofs.Common.{◌≡◌, refl, sym, ap, ap₂, ◌∙◌, ℕ, zero, suc, ◌+◌, ◌<◌, ◌≤◌, List, [], ◌∷◌, length, take, drop, get_or, Bool, true, false, cond, not, ◌&&◌, ◌||◌, eqb, arith}
+use Rattle.std.proofs.Common.{◌≡◌, refl, sym, ◌∙◌, ℕ, suc, ◌<◌, ◌≤◌, List, [], ◌∷◌, length, drop, Bool, true, false, cond, not, ◌&&◌, eqb, arith}
 use mathlib.Core.Bool.{false≢true}
 use borrow.Author.Tests.{ne_eqb}
 use Rattle.std.specs.List.{slice_split, onto_first, list_all}

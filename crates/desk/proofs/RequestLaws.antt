@@ -1,10 +1,8 @@
 -- What is said of the rows that were copied is said of the desk.
-use Rattle.std.proofs.Common.{◌≡◌, refl, ap, ℕ, ◌≤◌, ℤ, List, length, take, Result, Ok, Err, arith}
+use Rattle.std.proofs.Common.{◌≡◌, refl, ℕ, ◌≤◌, ℤ, List, length, take, Result, Ok, Err, arith}
 use Rattle.rules.specs.declared.Refusal.{Refusal}
 use Rattle.rules.specs.declared.Sizes.{Sizes}
 use Rattle.walks.specs.Rows.{Rows, rows, open_rows}
-use Rattle.walks.specs.Lent.{rows_of}
-use Rattle.walks.specs.declared.Network.{Network}
 use Rattle.files.specs.File.{Held, text, unread}
 use Rattle.commands.specs.Rows.{stretch_of, places_of}
 use Rattle.commands.specs.declared.Call.{Call}
@@ -15,7 +13,7 @@ use Rattle.commands.specs.declared.verbs.Reading.TheVariants as reading
 use Rattle.lending.specs.Stores.{put_at, row}
 use Rattle.lending.specs.declared.Desk.{Desk}
 use Rattle.replies.specs.Replies.{written_line, unsaved_line}
-use Rattle.calls.specs.Calls.{given, sizes_of, Makes}
+use Rattle.calls.specs.Calls.{given, Makes}
 use Rattle.calls.specs.Texts.{ReadsGraph, ReadsPlaces, RunsDay}
 use Rattle.calls.specs.Writing.{TextWrites, Saves}
 use Rattle.desk.specs.Desk.{arc_rows, lent_rows, given_back}
@@ -94,18 +92,21 @@ module _ (d : Desk) {held : Held} {reply : List ℕ} where
 -- ---- a text that was written
 
 -- of the rows that are lent on the desk
-pub rows_written : (d : Desk) (format : Format) (N : Network) {x y : List ℤ} {r : Result ℕ Refusal} {old new : List ℕ} → sizes_of N ≡ d.sizes → rows_of N ≡ arc_rows d → x ≡ row X d → y ≡ row Y d
-    → TextWrites format (sizes_of N) (open_rows N.tails.now N.heads.now N.weights.now) x y old r new → DeskWrites d format old r new
-rows_written d format N n e f g w = rw (n, ap (λ (R : Rows). R.tails) e, ap (λ (R : Rows). R.heads) e, ap (λ (R : Rows). R.weights) e, f, g) at w
+pub rows_written : (d : Desk) (format : Format) {sizes : Sizes} {tails heads weights : List ℕ} {x y : List ℤ} {r : Result ℕ Refusal} {old new : List ℕ}
+    → sizes ≡ d.sizes → tails ≡ row Tails d → heads ≡ row Heads d → weights ≡ row Weights d → x ≡ row X d → y ≡ row Y d
+    → TextWrites format sizes (open_rows tails heads weights) x y old r new → DeskWrites d format old r new
+rows_written d format n a b c f g w = rw (n, a, b, c, f, g) at w
 
-module _ (d : Desk) {format : Format} {r : Result ℕ Refusal} {old new : List ℕ} (same : old ≡ row Text d) (w : DeskWrites d format old r new) where
-  pub written_on : Meets d (request.Write format) (written_line r) (with_counts d d.counts d.numbers (put_at (stretch_of Text) new d.bytes))
-  written_on = Meets.written (rw same at w)
+pub written_on : (d : Desk) {format : Format} {r : Result ℕ Refusal} {old new : List ℕ} → old ≡ row Text d → DeskWrites d format old r new
+    → Meets d (request.Write format) (written_line r) (with_counts d d.counts d.numbers (put_at (stretch_of Text) new d.bytes))
+written_on d same w = Meets.written (rw same at w)
 
-  pub unsaved_on : {k : ℕ} → r ≡ Ok k → HasSaved d format unsaved_line
-  unsaved_on h = record { held = unread; says = Saves.unsaved (ap length same) (rw h at w) refl }
+-- or into a row of as many places as are lent of the row `text`, for a file that could not be written
+pub unsaved_on : (d : Desk) {format : Format} {r : Result ℕ Refusal} {old new : List ℕ} → length old ≡ length (row Text d) → DeskWrites d format old r new
+    → {k : ℕ} → r ≡ Ok k → HasSaved d format unsaved_line
+unsaved_on d long w h = record { held = unread; says = Saves.unsaved long (rw h at w) refl }
 
 -- the file holds the text, or what it held where the writer refused
-pub saved_on : (d : Desk) (format : Format) (r : Result ℕ Refusal) {old new : List ℕ} → old ≡ row Text d → DeskWrites d format old r new → HasSaved d format (written_line r)
-saved_on d format (Ok k) {new = new} same w = record { held = text (take k new); says = Saves.saved (ap length same) w refl }
-saved_on d format (Err f) same w = record { held = unread; says = Saves.refused (ap length same) w }
+pub saved_on : (d : Desk) (format : Format) (r : Result ℕ Refusal) {old new : List ℕ} → length old ≡ length (row Text d) → DeskWrites d format old r new → HasSaved d format (written_line r)
+saved_on d format (Ok k) {new = new} long w = record { held = text (take k new); says = Saves.saved long w refl }
+saved_on d format (Err f) long w = record { held = unread; says = Saves.refused long w }

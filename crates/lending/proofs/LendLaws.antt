@@ -16,9 +16,10 @@ use Rattle.commands.specs.declared.verbs.Verb.TheVariants as verb
 use Rattle.commands.specs.declared.rows.Row.{Row}
 use Rattle.commands.specs.declared.rows.Kind.{Kind}
 use Rattle.commands.specs.declared.rows.Stretch.{Stretch}
-use Rattle.lending.specs.Stores.{with_store, store_of, put_at, all_of, on_desk}
+use Rattle.lending.specs.Stores.{with_store, store_of, put_at, stored, all_of, on_desk}
 use Rattle.lending.specs.Lending.{value_in, lending}
 use Rattle.lending.specs.declared.Desk.{Desk}
+use Rattle.lending.proofs.PartLaws.{stored_from}
 
 -- what a command says of the words after a line's first two
 abbrev Promised : List (List ℕ) → Result Command Fault → Type 0
@@ -106,11 +107,16 @@ abbrev filled : (kind : Kind) → Stretch → List (List ℕ) → Desk → List 
 filled kind s words d =
     let store = store_of kind (all_of d) in
     let values = map (value_in kind) words in
-    take s.start store ++ (values ++ drop (s.start + length values) store)
+    take s.start store ++ stored values (drop s.start store)
 
 pub lend_is : (d : Desk) (row : Row) (s : Stretch) → s ≡ stretch_of row → (kind : Kind) → s.kind ≡ kind → (ws words : List (List ℕ)) → ws ≡ words
     → (k : ℕ) → k ≡ length ws → (store : List (Value kind)) → store ≡ filled kind s ws d → lent_to kind store s k d ≡ lending row words d
 unfolding put_at
 lend_is d row s e kind q ws words w k n store f =
     let to : Stretch → Desk = λ (t : Stretch). lent_to t.kind (filled t.kind t words d) t (length words) d in
-    rw (f, n, w) (subst (λ (x : Kind). lent_to x (filled x s words d) s (length words) d ≡ to s) q refl ∙ ap to e)
+    let kind' = kind_of row in
+    let there = stored_from (stretch_of row).start (map (value_in kind') words) (store_of kind' (all_of d)) in
+    rw (f, n, w)
+    (subst (λ (x : Kind). lent_to x (filled x s words d) s (length words) d ≡ to s) q refl
+    ∙ ap to e
+    ∙ ap (λ (store : List (Value kind')). lent_to kind' store (stretch_of row) (length words) d) there)

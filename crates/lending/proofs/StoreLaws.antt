@@ -1,11 +1,39 @@
--- Laws of the numbers that are stored for the words of a text.
-use Rattle.std.proofs.Common.{◌≡◌, refl, sym, ap, ap₂, ◌∙◌, ℕ, ◌+◌, ◌≤◌, ◌<◌, List, [], ◌∷◌, ◌++◌, map, length, take, drop, set, Result, Ok, Err, append-nil, append_assoc, arith}
+-- Laws of rows that are filled from the first place on, with numbers of any kind.
+use Rattle.std.proofs.Common.{◌≡◌, refl, sym, ap, ap₂, ◌∙◌, ℕ, ◌+◌, ◌≤◌, ◌<◌, List, [], ◌∷◌, ◌++◌, map, length, take, drop, set, replicate, Result, Ok, Err, append-nil, append_assoc, arith}
 use Rattle.std.proofs.lemmas.List.{take-append-drop, take_more_set, drop-set-lt}
 use lib.ListN.{length-set, length-map}
-use lib.Seq.{drop-drop}
+use lib.Seq.{drop-drop, drop-length, take-length}
 use Rattle.commands.specs.Commands.{Judged, on_ok, value_judged, values_judged}
 use Rattle.commands.specs.declared.Fault.{Fault}
 use Rattle.commands.specs.declared.rows.Kind.{Kind}
+use Rattle.lending.specs.Stores.{stored}
+
+-- ---- the same value in every place
+
+-- what holds where the first i places are v
+pub record Clearing {A : Type 0} (v : A) (old new : List A) (i : ℕ) : Type 0 where
+  pub below : i ≤ length old
+  pub filled : new ≡ replicate i v ++ drop i old
+  pub long : length new ≡ length old
+
+pub clear_end : {A : Type 0} (v : A) (old new : List A) (i : ℕ) → Clearing v old new i → length new ≤ i → new ≡ replicate (length old) v
+clear_end v old new i g h = let e : i ≡ length old = omega (arith, g.below, g.long) in rw (g.filled, e, drop-length old) (append-nil (replicate (length old) v))
+
+-- ---- the values of another row
+
+-- what holds where the first i values are copied
+pub record Copying {A : Type 0} (values old new : List A) (i : ℕ) : Type 0 where
+  pub below : i ≤ length values
+  pub filled : new ≡ take i values ++ drop i old
+  pub long : length new ≡ length old
+
+pub copy_start : {A : Type 0} (values old : List A) → Copying values old old 0
+copy_start values old = record { below = omega arith; filled = refl; long = refl }
+
+pub copy_end : {A : Type 0} (values old new : List A) (i : ℕ) → Copying values old new i → length values ≤ i → new ≡ stored values old
+copy_end values old new i g h = let e : i ≡ length values = omega (arith, g.below) in rw (g.filled, e, take-length values)
+
+-- ---- a number for each word of a text
 
 -- what is judged as a number is one
 pub judged_ok : {A : Type 0} (n : Result A Fault) (value : A) → ((v : A) → n ≡ Ok v → v ≡ value) → on_ok {B = Unit {0}} n (λ _. Ok (tt {0})) ≡ Ok (tt {0}) → n ≡ Ok value

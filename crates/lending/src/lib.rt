@@ -13,7 +13,7 @@ ghost use Rattle.commands.specs.declared.rows.Kind.TheVariants.{Counts, Numbers,
 ghost use Rattle.lending.specs.Stores.{part_at, all_lent};
 ghost use Rattle.lending.specs.Lending.{afresh, lending};
 
-use crate::rows::{Lent, part_of};
+use crate::rows::{Lent, clear_rows, part_of};
 use crate::storing::store_words;
 use commands::rows::{BYTES, COUNTS, Kind, NUMBERS, Row};
 use commands::words::{after_word, count_words};
@@ -53,9 +53,7 @@ impl Desk {
     {
         self.sizes = Sizes { n: 0, m: 0 };
         self.lent = Lent::all();
-        self.counts.fill(0);
-        self.numbers.fill(0);
-        self.bytes.fill(0);
+        clear_rows(&mut self.counts, &mut self.numbers, &mut self.bytes);
     }
 
     // The lent places of a row of counts, of one of numbers, of one of bytes.

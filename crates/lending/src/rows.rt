@@ -1,7 +1,7 @@
 // What is lent of the console's rows.
 ghost use Rattle.std.specs.Prelude.{◌≡◌, ◌≤◌, length, take};
 ghost use Rattle.commands.specs.Rows.{stretch_of, kind_of, places_of, size_of};
-ghost use Rattle.lending.specs.Stores.{lent_at, all_lent, part_at, put_at};
+ghost use Rattle.lending.specs.Stores.{stores, cleared, lent_at, all_lent, part_at, put_at};
 
 use commands::rows::{ROWS, Row};
 
@@ -59,4 +59,13 @@ pub fn give<T: Copy>(store: &mut [T], row: Row, values: &[T])
 {
     let a = row.stretch().start;
     store[a..a + values.len()].copy_from_slice(values);
+}
+
+// `fresh`: 0 stands in all places of all rows.
+pub fn clear_rows(counts: &mut [u32], numbers: &mut [i32], bytes: &mut [u8])
+    ensures { stores counts.new numbers.new bytes.new ≡ cleared (stores counts.old numbers.old bytes.old) }
+{
+    counts.fill(0);
+    numbers.fill(0);
+    bytes.fill(0);
 }

@@ -1,9 +1,11 @@
 // The numbers that words spell are stored in a row.
-ghost use Rattle.std.specs.Prelude.{◌≡◌, ◌+◌, ◌≤◌, ℕ, List, map, length, drop, take, ◌++◌, Ok};
+ghost use Rattle.std.specs.Prelude.{◌≡◌, ◌+◌, ◌≤◌, ℕ, List, map, length, drop, take, ◌++◌, Result, Ok};
 ghost use Rattle.commands.specs.Words.{words_of};
-ghost use Rattle.commands.specs.Commands.{value_judged, values_judged};
+ghost use Rattle.commands.specs.Commands.{number, signed, byte, value_judged, values_judged};
+ghost use Rattle.commands.specs.declared.Fault.{Fault};
 ghost use Rattle.commands.specs.declared.rows.Kind.{Kind};
 ghost use Rattle.commands.specs.declared.rows.Kind.TheVariants.{Counts, Numbers, Bytes};
+ghost use Rattle.lending.specs.Stores.{stored};
 ghost use Rattle.lending.specs.Lending.{value_in};
 
 use commands::Fault;
@@ -14,16 +16,22 @@ use commands::words::words_of;
 pub trait Spelt: Copy + Drop {
     ghost kind: { Kind };
 
-    // what a word spells
+    // a word as a number, or its fault
+    ghost reads: { List ℕ → Result Self Fault };
+
+    // the number that a judged word spells
     ghost value: { List ℕ → Self };
 
-    // A word that was judged is a number.
+    // Reads a word. One that was judged is a number.
     fn read(word: &[u8]) -> Result<Self, Fault>
-        ensures { value_judged kind word.now ≡ Ok tt → result ≡ Ok (value word.now) };
+        ensures reads { result ≡ reads word.now }
+        ensures value { value_judged kind word.now ≡ Ok tt → result ≡ Ok (value word.now) };
 }
 
 impl Spelt for u32 {
     ghost kind = { Counts };
+
+    ghost reads = { number };
 
     ghost value = { value_in Counts };
 
@@ -35,6 +43,8 @@ impl Spelt for u32 {
 impl Spelt for i32 {
     ghost kind = { Numbers };
 
+    ghost reads = { signed };
+
     ghost value = { value_in Numbers };
 
     fn read(word: &[u8]) -> Result<i32, Fault> {
@@ -44,6 +54,8 @@ impl Spelt for i32 {
 
 impl Spelt for u8 {
     ghost kind = { Bytes };
+
+    ghost reads = { byte };
 
     ghost value = { value_in Bytes };
 
@@ -56,7 +68,7 @@ impl Spelt for u8 {
 pub fn store_words<T: Spelt>(store: &mut [T], start: usize, words: &[u8])
     requires judged { values_judged T.kind (words_of words.now) ≡ Ok tt }
     requires room { start + length (words_of words.now) ≤ length store.old }
-    ensures { let values = map T.value (words_of words.now) in store.new ≡ take start store.old ++ (values ++ drop (start + length values) store.old) }
+    ensures { store.new ≡ take start store.old ++ stored (map T.value (words_of words.now)) (drop start store.old) }
 {
     for (k, word) in words_of(words).enumerate() {
         store[start + k] = T::read(word).unwrap();

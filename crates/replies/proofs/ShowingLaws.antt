@@ -11,7 +11,7 @@ use Rattle.commands.specs.declared.rows.Row.TheVariants as row
 use Rattle.commands.specs.declared.rows.Kind.{Kind}
 use Rattle.commands.specs.declared.rows.Kind.TheVariants.{Counts, Numbers, Bytes}
 use Rattle.commands.specs.declared.rows.Stretch.{Stretch}
-use Rattle.lending.specs.Stores.{store_of, part_at, all_of}
+use Rattle.lending.specs.Stores.{store_of, lent_at, part_at, all_of}
 use Rattle.lending.specs.declared.Desk.{Desk}
 use Rattle.lending.specs.declared.rows.Lent.{Lent}
 use Rattle.lending.proofs.PartLaws.{part_few}
@@ -29,6 +29,20 @@ name_short row.Route = omega arith
 name_short row.Text = omega arith
 name_short row.Closed = omega arith
 name_short row.Answers = omega arith
+
+-- a row that was looked up in the table
+module _ (s : Stretch) (r : Row) (e : s ≡ stretch_of r) (lent : Lent) where
+  pub lent_there : (many k : ℕ) → many ≡ lent_at lent s → k ≤ many → k ≤ lent_at lent (stretch_of r)
+  lent_there many k p h = let q = ap (λ (t : Stretch). lent_at lent t) e in omega (arith, p, q)
+
+  -- the values that are lent have room on a page
+  pub few : Lies s → (kind : Kind) → s.kind ≡ kind → (k : ℕ) → k ≤ lent_at lent (stretch_of r) → k * width_of kind ≤ 360448
+  few l kind q k h = by_kind kind (subst (λ (x : Kind). s.places * width_of x ≤ 360448) q l.short) (omega (arith, ap (λ (t : Stretch). lent_at lent t) e))
+    where
+      by_kind : (x : Kind) → s.places * width_of x ≤ 360448 → k ≤ s.places → k * width_of x ≤ 360448
+      by_kind Counts p b = omega arith
+      by_kind Numbers p b = omega arith
+      by_kind Bytes p b = omega arith
 
 -- a row that was looked up in the table, and its kind
 module _ {s : Stretch} (r : Row) (e : s ≡ stretch_of r) (kind : Kind) (q : s.kind ≡ kind) where

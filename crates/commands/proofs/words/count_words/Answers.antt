@@ -1,5 +1,5 @@
 -- `commands::words::count_words` meets its contract.
-use Rattle.std.proofs.Common.{◌≡◌, ℕ, List, length, ap, arith, inl}
+use Rattle.std.proofs.Common.{◌≡◌, length, ap, arith, inl}
 use Rattle.scan.specs.Left.{pieces_left}
 use Rattle.commands.specs.Words.{words_of}
 use Rattle.commands.proofs.WordLaws.{words_few}

@@ -1,9 +1,7 @@
 -- `lending::Desk::clear` meets its contract.
+use Rattle.std.proofs.Common.{ap}
+use Rattle.lending.specs.Stores.{Stores, all_lent, on_desk}
 use Rattle.lending.proofs.Desk.clear.Goals as goal
 
 pub returns : goal.returns
-returns c =
-    let counts = c.fill.ensures.after (λ y e. e) in
-    let numbers = c.fill-2.ensures.after (λ y e. e) in
-    let bytes = c.fill-3.ensures.after (λ y e. e) in
-    rw (c.all-self.ensures, counts, numbers, bytes)
+returns c = rw c.all-self.ensures (ap (λ (s : Stores). record (on_desk s c.args.self.now) { sizes = record { n = 0; m = 0 }; lent = all_lent }) c.clear_rows.ensures)

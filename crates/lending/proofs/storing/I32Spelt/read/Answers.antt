@@ -4,6 +4,6 @@ use Rattle.lending.specs.Lending.{whole_in}
 use Rattle.lending.proofs.StoreLaws.{judged_ok}
 use Rattle.lending.proofs.storing.I32Spelt.read.Goals as goal
 
-pub returns : goal.returns
+pub returns-clause-value : goal.returns-clause-value
 unfolding whole_in
-returns c = λ h. c.read_signed.ensures ∙ judged_ok _ _ (λ v e. ap whole_in (sym e)) h
+returns-clause-value c = λ h. c.read_signed.ensures ∙ judged_ok _ _ (λ v e. ap whole_in (sym e)) h

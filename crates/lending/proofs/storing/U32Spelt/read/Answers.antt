@@ -4,6 +4,6 @@ use Rattle.lending.specs.Lending.{count_in}
 use Rattle.lending.proofs.StoreLaws.{judged_ok}
 use Rattle.lending.proofs.storing.U32Spelt.read.Goals as goal
 
-pub returns : goal.returns
+pub returns-clause-value : goal.returns-clause-value
 unfolding count_in
-returns c = λ h. c.read_count.ensures ∙ judged_ok _ _ (λ v e. ap count_in (sym e)) h
+returns-clause-value c = λ h. c.read_count.ensures ∙ judged_ok _ _ (λ v e. ap count_in (sym e)) h
