@@ -2,11 +2,13 @@
 #![tactic(auto)]
 
 mod numbers;
+#[cfg(test)]
+mod tests;
 
 ghost use Rattle.std.specs.Prelude.{◌≡◌, ◌++◌, ◌+◌, ◌≤◌, [], List, ℕ, length, take};
 ghost use Rattle.pages.specs.Page.{Puts};
 
-pub use numbers::Number;
+pub use numbers::{Number, Short};
 use std::marker::Model;
 
 // The bytes of a program's page: more than any listing or reply takes.

@@ -14,23 +14,63 @@ pub trait Number: Copy {
 
     ghost most: { ℕ };
 
-    // Puts the number at the front of bytes, and answers how many it takes.
+    // The number on a page of its own.
+    fn spell(self) -> Page<20>
+        ensures spelt { result ≡ spelt self }
+        ensures upper_bound { length (spelt self) ≤ most };
+
+    // Puts the number at the front of bytes, and answers how many it takes; by its own page, where the type has no shorter way.
     fn spell_into(self, bytes: &mut [u8]) -> usize
+        requires { most ≤ length bytes.old }
+        ensures spelt { take result bytes.new ≡ spelt self }
+        ensures upper_bound { result ≡ length (spelt self) × (length (spelt self) ≤ most) }
+    {
+        let page = self.spell();
+        let text = page.text();
+        bytes[..text.len()].copy_from_slice(text);
+        text.len()
+    }
+}
+
+// A number of at most 20 bytes that needs no page of its own.
+pub trait Short: Copy {
+    // how it is spelt, and the most bytes that takes
+    ghost spelt: { Self → List ℕ };
+
+    ghost most: { ℕ };
+
+    // Puts the number at the front of bytes, and answers how many it takes.
+    fn put_into(self, bytes: &mut [u8]) -> usize
         requires { most ≤ length bytes.old }
         ensures spelt { take result bytes.new ≡ spelt self }
         ensures upper_bound { result ≡ length (spelt self) × (length (spelt self) ≤ most) };
 
     // The number on a page of its own.
-    final fn spell(self) -> Page<20>
+    final fn on_page(self) -> Page<20>
         ensures spelt { result ≡ spelt self }
         ensures upper_bound { length (spelt self) ≤ most }
     {
         let mut bytes = [0; 20];
-        let end = self.spell_into(&mut bytes[..]);
+        let end = self.put_into(&mut bytes[..]);
         Page { bytes, end }
     }
 
     ghost short: { most ≤ 20 };
+}
+
+// Such a number stands on a page too, and is put there the shorter way.
+impl<T: Short> Number for T {
+    ghost spelt = { T.spelt };
+
+    ghost most = { T.most };
+
+    fn spell(self) -> Page<20> {
+        self.on_page()
+    }
+
+    fn spell_into(self, bytes: &mut [u8]) -> usize {
+        self.put_into(bytes)
+    }
 }
 
 // Puts a number's digits at the front of bytes, and answers how many they are.
@@ -45,50 +85,50 @@ fn put_digits(n: u64, bytes: &mut [u8]) -> usize
     end
 }
 
-impl Number for u64 {
+impl Short for u64 {
     ghost spelt = { decimal };
 
     ghost most = { 20 };
 
     ghost short = { Prim.search rules };
 
-    fn spell_into(self, bytes: &mut [u8]) -> usize {
+    fn put_into(self, bytes: &mut [u8]) -> usize {
         put_digits(self, bytes)
     }
 }
 
-impl Number for u32 {
+impl Short for u32 {
     ghost spelt = { decimal };
 
     ghost most = { 10 };
 
     ghost short = { Prim.search rules };
 
-    fn spell_into(self, bytes: &mut [u8]) -> usize {
+    fn put_into(self, bytes: &mut [u8]) -> usize {
         put_digits(self as u64, bytes)
     }
 }
 
-impl Number for u8 {
+impl Short for u8 {
     ghost spelt = { decimal };
 
     ghost most = { 3 };
 
     ghost short = { Prim.search rules };
 
-    fn spell_into(self, bytes: &mut [u8]) -> usize {
+    fn put_into(self, bytes: &mut [u8]) -> usize {
         put_digits(self as u64, bytes)
     }
 }
 
-impl Number for i32 {
+impl Short for i32 {
     ghost spelt = { whole };
 
     ghost most = { 11 };
 
     ghost short = { Prim.search rules };
 
-    fn spell_into(self, bytes: &mut [u8]) -> usize {
+    fn put_into(self, bytes: &mut [u8]) -> usize {
         let size = self.unsigned_abs() as u64;
         if self < 0 {
             bytes[0] = b'-';

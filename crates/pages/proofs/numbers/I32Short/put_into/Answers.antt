@@ -1,4 +1,4 @@
--- `i32::spell_into` meets its contract.
+-- `i32::put_into` meets its contract.
 use Prim.Native.Nat.{ℕ}
 use mathlib.Core.Path.{◌≡◌, ap, ◌∙◌}
 use mathlib.Core.List.{List, [], ◌∷◌}
@@ -10,7 +10,7 @@ use Rattle.std.proofs.Common.{slice_set, length-set}
 use Rattle.scan.proofs.DecimalLaws.{decimal_long}
 use Rattle.pages.proofs.DecimalLaws.{whole_minus, whole_plus, whole_long}
 use Rattle.pages.proofs.FrontLaws.{put_front, room_after, take_set_first}
-use Rattle.pages.proofs.numbers.I32Number.spell_into.Goals as goal
+use Rattle.pages.proofs.numbers.I32Short.put_into.Goals as goal
 
 pub put_digits-requires : goal.put_digits-requires
 put_digits-requires c =

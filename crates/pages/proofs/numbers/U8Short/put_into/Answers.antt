@@ -1,7 +1,7 @@
--- `u8::spell_into` meets its contract.
+-- `u8::put_into` meets its contract.
 use native.Mathlib.Omega.{arith}
 use Rattle.scan.proofs.DecimalLaws.{decimal_long}
-use Rattle.pages.proofs.numbers.U8Number.spell_into.Goals as goal
+use Rattle.pages.proofs.numbers.U8Short.put_into.Goals as goal
 
 pub put_digits-requires : goal.put_digits-requires
 put_digits-requires c = let long = decimal_long 2 c.args.self (omega arith) in omega (arith, long)
