@@ -3,6 +3,8 @@
 
 pub mod rows;
 pub mod storing;
+#[cfg(test)]
+mod tests;
 
 ghost use Rattle.std.specs.Prelude.{◌≡◌, drop, Ok, pos, replicate};
 ghost use Rattle.commands.specs.Words.{words_of};

@@ -16,6 +16,18 @@ use commands::words::words_of;
 pub trait Spelt: Copy + Drop {
     ghost kind: { Kind };
 
+    // what a word spells
+    ghost value: { List ℕ → Self };
+
+    // A word that was judged is a number.
+    fn read(word: &[u8]) -> Result<Self, Fault>
+        ensures { value_judged kind word.now ≡ Ok tt → result ≡ Ok (value word.now) };
+}
+
+// Numbers of a kind of row, with what each word is, a misspelt one too.
+pub trait Worded: Copy + Drop {
+    ghost kind: { Kind };
+
     // a word as a number, or its fault
     ghost reads: { List ℕ → Result Self Fault };
 
@@ -23,43 +35,57 @@ pub trait Spelt: Copy + Drop {
     ghost value: { List ℕ → Self };
 
     // Reads a word. One that was judged is a number.
-    fn read(word: &[u8]) -> Result<Self, Fault>
+    fn of_word(word: &[u8]) -> Result<Self, Fault>
         ensures reads { result ≡ reads word.now }
         ensures value { value_judged kind word.now ≡ Ok tt → result ≡ Ok (value word.now) };
 }
 
-impl Spelt for u32 {
+// Such numbers are `Spelt`, and there too `read` says what each word is.
+impl<T: Worded> Spelt for T {
+    ghost kind = { T.kind };
+
+    ghost value = { T.value };
+
+    fn read(word: &[u8]) -> Result<T, Fault>
+        ensures reads { result ≡ T.reads word.now }
+        ensures value { value_judged T.kind word.now ≡ Ok tt → result ≡ Ok (T.value word.now) }
+    {
+        T::of_word(word)
+    }
+}
+
+impl Worded for u32 {
     ghost kind = { Counts };
 
     ghost reads = { number };
 
     ghost value = { value_in Counts };
 
-    fn read(word: &[u8]) -> Result<u32, Fault> {
+    fn of_word(word: &[u8]) -> Result<u32, Fault> {
         read_count(word)
     }
 }
 
-impl Spelt for i32 {
+impl Worded for i32 {
     ghost kind = { Numbers };
 
     ghost reads = { signed };
 
     ghost value = { value_in Numbers };
 
-    fn read(word: &[u8]) -> Result<i32, Fault> {
+    fn of_word(word: &[u8]) -> Result<i32, Fault> {
         read_signed(word)
     }
 }
 
-impl Spelt for u8 {
+impl Worded for u8 {
     ghost kind = { Bytes };
 
     ghost reads = { byte };
 
     ghost value = { value_in Bytes };
 
-    fn read(word: &[u8]) -> Result<u8, Fault> {
+    fn of_word(word: &[u8]) -> Result<u8, Fault> {
         read_byte(word)
     }
 }

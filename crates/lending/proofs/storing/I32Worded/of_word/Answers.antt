@@ -1,8 +1,8 @@
--- `lending::storing::I32Spelt::read` meets its contract.
+-- `lending::storing::I32Worded::of_word` meets its contract.
 use Rattle.std.proofs.Common.{ap, sym, ◌∙◌}
 use Rattle.lending.specs.Lending.{whole_in}
 use Rattle.lending.proofs.StoreLaws.{judged_ok}
-use Rattle.lending.proofs.storing.I32Spelt.read.Goals as goal
+use Rattle.lending.proofs.storing.I32Worded.of_word.Goals as goal
 
 pub returns-clause-value : goal.returns-clause-value
 unfolding whole_in

@@ -1,8 +1,8 @@
--- `lending::storing::U32Spelt::read` meets its contract.
+-- `lending::storing::U32Worded::of_word` meets its contract.
 use Rattle.std.proofs.Common.{ap, sym, ◌∙◌}
 use Rattle.lending.specs.Lending.{count_in}
 use Rattle.lending.proofs.StoreLaws.{judged_ok}
-use Rattle.lending.proofs.storing.U32Spelt.read.Goals as goal
+use Rattle.lending.proofs.storing.U32Worded.of_word.Goals as goal
 
 pub returns-clause-value : goal.returns-clause-value
 unfolding count_in
